@@ -1,0 +1,215 @@
+// What the directory tells of users, groups, this host and the access rules.
+use sd_base::{Copied, Items, Memory, Text, Texts};
+
+/// A user: posixAccount of RFC 2307.
+#[derive(Debug, Drop, PartialEq, Eq)]
+pub struct User {
+    pub dn: Text,
+    pub name: Text,
+    pub uid: u32,
+    pub gid: u32,
+    pub gecos: Text,
+    pub home: Text,
+    pub shell: Text,
+}
+
+/// A group, whose members are user names in byte order: posixGroup, with members by name as RFC 2307bis nests them.
+#[derive(Debug, Drop, PartialEq, Eq)]
+pub struct Group {
+    pub dn: Text,
+    pub name: Text,
+    pub gid: u32,
+    pub members: Texts,
+}
+
+/// A group that a user is in; its number is there where the directory gives one.
+#[derive(Debug, Drop, PartialEq, Eq)]
+pub struct GroupRef {
+    pub name: Text,
+    pub gid: Option<u32>,
+}
+
+/// A list of groups that a user is in.
+pub type GroupRefs = Items<GroupRef>;
+
+/// The groups of a user, in byte order of their names.
+#[derive(Debug, Drop, PartialEq, Eq)]
+pub struct Groups {
+    pub user: Text,
+    pub groups: GroupRefs,
+}
+
+/// A host and its host groups.
+#[derive(Debug, Drop, PartialEq, Eq)]
+pub struct Host {
+    pub name: Text,
+    pub groups: Texts,
+}
+
+/// One side of an access rule: everything, or things by name and by group.
+#[derive(Debug, Drop, PartialEq, Eq)]
+pub struct Element {
+    pub all: bool,
+    pub names: Texts,
+    pub groups: Texts,
+}
+
+/// An access rule: ipaHBACRule of FreeIPA.
+#[derive(Debug, Drop, PartialEq, Eq)]
+pub struct Rule {
+    pub name: Text,
+    pub enabled: bool,
+    pub users: Element,
+    pub hosts: Element,
+    pub services: Element,
+}
+
+/// A service that rules name, and its service groups: ipaHBACService of FreeIPA.
+#[derive(Debug, Drop, PartialEq, Eq)]
+pub struct Service {
+    pub name: Text,
+    pub groups: Texts,
+}
+
+/// A list of access rules.
+pub type RuleList = Items<Rule>;
+
+/// A list of services.
+pub type ServiceList = Items<Service>;
+
+/// All access rules and services of the directory, in its order.
+#[derive(Debug, Drop, PartialEq, Eq)]
+pub struct RuleBook {
+    pub rules: RuleList,
+    pub services: ServiceList,
+}
+
+/// What the directory found for a key.
+#[derive(Debug, Drop, PartialEq, Eq)]
+pub enum Record {
+    User(User),
+    Group(Group),
+    Groups(Groups),
+    Host(Host),
+    Rules(RuleBook),
+}
+
+/// The directory's answer to a key.
+#[derive(Debug, Drop, PartialEq, Eq)]
+pub enum Answered {
+    Found(Record),
+    Absent,
+}
+
+impl Copied for User {
+    fn copy(&self) -> Result<User, Memory> {
+        Ok(User {
+            dn: self.dn.copy()?,
+            name: self.name.copy()?,
+            uid: self.uid,
+            gid: self.gid,
+            gecos: self.gecos.copy()?,
+            home: self.home.copy()?,
+            shell: self.shell.copy()?,
+        })
+    }
+}
+
+impl Copied for Group {
+    fn copy(&self) -> Result<Group, Memory> {
+        Ok(Group {
+            dn: self.dn.copy()?,
+            name: self.name.copy()?,
+            gid: self.gid,
+            members: self.members.copy()?,
+        })
+    }
+}
+
+impl Copied for GroupRef {
+    fn copy(&self) -> Result<GroupRef, Memory> {
+        Ok(GroupRef {
+            name: self.name.copy()?,
+            gid: self.gid,
+        })
+    }
+}
+
+impl Copied for Groups {
+    fn copy(&self) -> Result<Groups, Memory> {
+        Ok(Groups {
+            user: self.user.copy()?,
+            groups: self.groups.copy()?,
+        })
+    }
+}
+
+impl Copied for Host {
+    fn copy(&self) -> Result<Host, Memory> {
+        Ok(Host {
+            name: self.name.copy()?,
+            groups: self.groups.copy()?,
+        })
+    }
+}
+
+impl Copied for Element {
+    fn copy(&self) -> Result<Element, Memory> {
+        Ok(Element {
+            all: self.all,
+            names: self.names.copy()?,
+            groups: self.groups.copy()?,
+        })
+    }
+}
+
+impl Copied for Rule {
+    fn copy(&self) -> Result<Rule, Memory> {
+        Ok(Rule {
+            name: self.name.copy()?,
+            enabled: self.enabled,
+            users: self.users.copy()?,
+            hosts: self.hosts.copy()?,
+            services: self.services.copy()?,
+        })
+    }
+}
+
+impl Copied for Service {
+    fn copy(&self) -> Result<Service, Memory> {
+        Ok(Service {
+            name: self.name.copy()?,
+            groups: self.groups.copy()?,
+        })
+    }
+}
+
+impl Copied for RuleBook {
+    fn copy(&self) -> Result<RuleBook, Memory> {
+        Ok(RuleBook {
+            rules: self.rules.copy()?,
+            services: self.services.copy()?,
+        })
+    }
+}
+
+impl Copied for Record {
+    fn copy(&self) -> Result<Record, Memory> {
+        Ok(match self {
+            Record::User(user) => Record::User(user.copy()?),
+            Record::Group(group) => Record::Group(group.copy()?),
+            Record::Groups(groups) => Record::Groups(groups.copy()?),
+            Record::Host(host) => Record::Host(host.copy()?),
+            Record::Rules(book) => Record::Rules(book.copy()?),
+        })
+    }
+}
+
+impl Copied for Answered {
+    fn copy(&self) -> Result<Answered, Memory> {
+        match self {
+            Answered::Found(found) => Ok(Answered::Found(found.copy()?)),
+            Answered::Absent => Ok(Answered::Absent),
+        }
+    }
+}
