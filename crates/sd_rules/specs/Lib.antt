@@ -1,0 +1,5 @@
+pub mod Keys
+pub mod Past
+pub mod Requests
+pub mod Servers
+pub mod Answers
