@@ -3,3 +3,7 @@ pub mod Past
 pub mod Requests
 pub mod Servers
 pub mod Answers
+pub mod Logins
+pub mod Access
+pub mod TextBytes
+pub mod Steps
