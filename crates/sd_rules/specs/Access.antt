@@ -104,25 +104,25 @@ simple_allows lists user groups =
     else if is_empty_list lists.allow_users && is_empty_list lists.allow_groups then true
     else lists_name lists.allow_users user || lists_any lists.allow_groups groups
 
-abbrev pub names_of_groups : Option Standing → List (List ℕ)
-names_of_groups None = []
-names_of_groups (Some a) = names_in a.answered
-  where
-    names_in : Answered → List (List ℕ)
-    names_in (Found (records.Groups groups)) = map (λ (g : GroupRef). g.name) groups.groups
-    names_in _ = []
+abbrev pub groups_in_answer : Answered → List (List ℕ)
+groups_in_answer (Found (records.Groups groups)) = map (λ (g : GroupRef). g.name) groups.groups
+groups_in_answer _ = []
+
+abbrev pub groups_of_user : Option Standing → List (List ℕ)
+groups_of_user None = []
+groups_of_user (Some a) = groups_in_answer a.answered
 
 -- the groups of a user, by the newest answer to the question for them
 abbrev pub user_groups : List Entry → List ℕ → List (List ℕ)
-user_groups past user = names_of_groups (newest past (keys.GroupsOf user))
+user_groups past user = groups_of_user (newest past (keys.GroupsOf user))
+
+abbrev pub host_groups_in_answer : Answered → List (List ℕ)
+host_groups_in_answer (Found (records.Host host)) = host.groups
+host_groups_in_answer _ = []
 
 abbrev pub groups_of_host : Option Standing → List (List ℕ)
 groups_of_host None = []
-groups_of_host (Some a) = groups_in a.answered
-  where
-    groups_in : Answered → List (List ℕ)
-    groups_in (Found (records.Host host)) = host.groups
-    groups_in _ = []
+groups_of_host (Some a) = host_groups_in_answer a.answered
 
 -- who asks: the user with the groups of the user's, this host with its groups, and the service
 abbrev pub asker_of : Settings → List Entry → List ℕ → List ℕ → Asker

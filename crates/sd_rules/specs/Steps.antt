@@ -1,5 +1,5 @@
 -- One step of the abstract daemon: the entry that an event makes, what it gives, and when there is no room for it.
-use Rattle.std.specs.Prelude.{ℕ, Bool, true, false, ◌&&◌, ◌||◌, ◌==◌, ◌+◌, ◌*◌, ◌^◌, ◌-◌, max, nat_lt, not, length, slice_get, List, [], ◌∷◌, Option, Some, None, if◌then◌else◌}
+use Rattle.std.specs.Prelude.{ℕ, Bool, true, false, ◌&&◌, ◌||◌, ◌==◌, ◌+◌, ◌*◌, ◌^◌, ◌-◌, max, nat_lt, not, length, slice_get, is_some, List, [], ◌∷◌, Option, Some, None, if◌then◌else◌}
 use Rattle.sd_rules.specs.declared.keys.Key.{Key}
 use Rattle.sd_rules.specs.declared.records.Answered.{Answered}
 use Rattle.sd_rules.specs.declared.records.Answered.TheVariants.{Found}
@@ -262,11 +262,7 @@ given d now event = given_by d.past (next_number d) (entry_made d now event).rep
 -- the steps that give back a reserved place: an Abandon of what is open, a Leave of a ticket that waits, a Collect that takes
 abbrev pub gives_back : List Entry → Event → Bool
 gives_back past (Abandon n) = is_open past n
-gives_back past (Leave ticket) = has_request (waits_for past ticket)
-  where
-    has_request : Option ℕ → Bool
-    has_request None = false
-    has_request (Some request) = true
+gives_back past (Leave ticket) = is_some (waits_for past ticket)
 gives_back past (Collect ticket) = is_took (reply_to_collect past (waits_for past ticket))
 gives_back past _ = false
 

@@ -1,0 +1,138 @@
+// Account checks, by mode, by the simple lists, or by the access rules of the directory.
+ghost use Rattle.std.specs.Prelude.{◌≡◌, ◌<◌, ◌^◌, map, reverse, IfOk};
+ghost use Rattle.std.specs.Option.{option_map};
+ghost use Rattle.sd_rules.specs.Access as access;
+ghost use Rattle.sd_rules.specs.TextBytes as bytes;
+ghost use Rattle.sd_journal.specs.Seen as seen;
+ghost use Rattle.sd_hbac.specs.Seen as asked;
+ghost use Rattle.sd_core.specs.Bounds.{bytes_of_standing};
+
+use sd_base::{Copied, Memory, Text, Texts};
+use sd_hbac::{allowed, simple};
+use sd_journal::past::{Standing, newest};
+use sd_rules::{
+    AccessMode, Answered, By, Entry, GroupRef, Key, NotBy, Record, Reply, RuleBook, Settings, Who,
+};
+use std::alloc::Global;
+
+fn group_names(alloc: Global, groups: &[GroupRef]) -> Result<Texts, Memory>
+    ensures { IfOk result (λ names. names ≡ map (λ g. g.name) groups.now) }
+{
+    let mut names = Texts::new(alloc);
+    for group in groups {
+        names.push(group.name.copy()?)?;
+    }
+    Ok(names)
+}
+
+/// The groups of a user, by the answer to the question for them.
+fn groups_of_user(alloc: Global, answer: Option<Standing<'_>>) -> Result<Texts, Memory>
+    ensures { IfOk result (λ groups. groups ≡ access.groups_of_user (option_map seen.standing answer.entry)) }
+{
+    match answer {
+        Some(a) => match a.answered {
+            Answered::Found(Record::Groups(groups)) => group_names(alloc, groups.groups.items()),
+            _ => Ok(Texts::new(alloc)),
+        },
+        None => Ok(Texts::new(alloc)),
+    }
+}
+
+/// The groups of this host, by the answer to the question for it.
+fn groups_of_host(alloc: Global, answer: Option<Standing<'_>>) -> Result<Texts, Memory>
+    ensures { IfOk result (λ groups. groups ≡ access.groups_of_host (option_map seen.standing answer.entry)) }
+{
+    match answer {
+        Some(a) => match a.answered {
+            Answered::Found(Record::Host(host)) => host.groups.copy(),
+            _ => Ok(Texts::new(alloc)),
+        },
+        None => Ok(Texts::new(alloc)),
+    }
+}
+
+fn user_groups(alloc: Global, entries: &[Entry], user: &Text) -> Result<Texts, Memory>
+    ensures { IfOk result (λ groups. groups ≡ access.user_groups (reverse entries.now) user.now) }
+{
+    let key = Key::GroupsOf(user.copy()?);
+    groups_of_user(alloc, newest(entries, &key))
+}
+
+fn reply_by_rule(number: u64, rule: Option<u32>) -> Reply
+    ensures { result ≡ access.reply_by_rule number rule }
+{
+    match rule {
+        Some(place) => Reply::Granted(By::Rule(number, place)),
+        None => Reply::Denied(NotBy::NoRule),
+    }
+}
+
+/// The reply by the answer that holds the rules.
+#[tactic(auto, using(crate::proofs::Sizes::rules_within_bytes))]
+fn reply_by_rules(who: &Who<'_>, answer: Option<Standing<'_>>) -> Reply
+    requires { bytes_of_standing (option_map seen.standing answer) < 2 ^ 32 }
+    ensures { result ≡ access.reply_by_rules (asked.asker who.now) (option_map seen.standing answer.entry) }
+{
+    match answer {
+        Some(a) => match a.answered {
+            Answered::Found(Record::Rules(book)) => reply_by_rule(a.number, allowed(book, who)),
+            _ => Reply::Denied(NotBy::NoRule),
+        },
+        None => Reply::Denied(NotBy::NoRule),
+    }
+}
+
+fn reply_by_lists(allowed: bool) -> Reply
+    ensures { result ≡ access.reply_by_lists allowed }
+{
+    if allowed {
+        Reply::Granted(By::Simple)
+    } else {
+        Reply::Denied(NotBy::Simple)
+    }
+}
+
+#[tactic(auto, using(crate::proofs::Sizes::newest_within))]
+fn access_by_rules(
+    alloc: Global,
+    settings: &Settings,
+    entries: &[Entry],
+    user: &Text,
+    service: &Text,
+) -> Result<Reply, Memory>
+    requires { bytes.text_bytes (reverse entries.now) < 2 ^ 32 }
+    ensures { IfOk result (λ reply. reply ≡ access.access_by AccessMode.Ipa settings.now (reverse entries.now) user.now service.now) }
+{
+    let groups = user_groups(alloc, entries, user)?;
+    let host_groups = groups_of_host(alloc, newest(entries, &Key::Host))?;
+    let who = Who {
+        user,
+        groups: &groups,
+        service,
+        host: &settings.hostname,
+        host_groups: &host_groups,
+    };
+    Ok(reply_by_rules(&who, newest(entries, &Key::Rules)))
+}
+
+/// The reply to an account check of a user at a service.
+pub fn access_of(
+    alloc: Global,
+    settings: &Settings,
+    entries: &[Entry],
+    user: &Text,
+    service: &Text,
+) -> Result<Reply, Memory>
+    requires { bytes.text_bytes (reverse entries.now) < 2 ^ 32 }
+    ensures { IfOk result (λ reply. reply ≡ access.access_of settings.now (reverse entries.now) user.now service.now) }
+{
+    match settings.access {
+        AccessMode::Permit => Ok(Reply::Granted(By::Permit)),
+        AccessMode::Deny => Ok(Reply::Denied(NotBy::Deny)),
+        AccessMode::Simple => {
+            let groups = user_groups(alloc, entries, user)?;
+            Ok(reply_by_lists(simple(&settings.simple, user, &groups)))
+        }
+        AccessMode::Ipa => access_by_rules(alloc, settings, entries, user, service),
+    }
+}
