@@ -2,4 +2,5 @@
 #![tactic(auto)]
 
 pub mod access;
+pub mod replies;
 pub mod text_bytes;

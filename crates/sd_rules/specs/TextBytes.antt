@@ -88,4 +88,5 @@ bytes_of_event _ = 0
 
 -- the text bytes of the events of all entries
 abbrev pub text_bytes : List Entry → ℕ
-text_bytes past = sum_by (λ (e : Entry). bytes_of_event e.event) past
+text_bytes [] = 0
+text_bytes (e ∷ past) = bytes_of_event e.event + text_bytes past
