@@ -2,5 +2,6 @@
 #![tactic(auto)]
 
 pub mod access;
+pub mod given;
 pub mod replies;
 pub mod text_bytes;

@@ -1,0 +1,155 @@
+// What a step gives beside its reply: the record, the stored hash and the rule's name that the reply names.
+ghost use Rattle.std.specs.Prelude.{◌≡◌, reverse, IfOk};
+ghost use Rattle.std.specs.Option.{option_copied};
+ghost use Rattle.sd_rules.specs.Steps as steps;
+
+use sd_base::{Copied, Memory, Text};
+use sd_rules::{
+    Answered, By, Entry, Event, Given, Hash, LoginResult, Outcome, Record, Reply, Row, Rule,
+};
+
+fn record_of(event: &Event) -> Option<&Record>
+    ensures { option_copied result ≡ steps.record_of event.now }
+{
+    match event {
+        Event::Answer(_, Answered::Found(found)) => Some(found),
+        Event::Kept(Row::Answer(_, _, _, Answered::Found(found), _)) => Some(found),
+        _ => None,
+    }
+}
+
+fn event_at(entries: &[Entry], number: u64) -> Option<&Event>
+    ensures { option_copied result ≡ steps.event_at (reverse entries.now) number }
+{
+    for place in (0..entries.len()).rev() {
+        let entry = &entries[place];
+        if entry.number == number {
+            return Some(&entry.event);
+        }
+    }
+    None
+}
+
+fn record_at(entries: &[Entry], number: u64) -> Option<&Record>
+    ensures { option_copied result ≡ steps.record_in (steps.event_at (reverse entries.now) number) }
+{
+    match event_at(entries, number) {
+        Some(event) => record_of(event),
+        None => None,
+    }
+}
+
+fn answer_named_by_outcome(outcome: Outcome) -> Option<u64>
+    ensures { result ≡ steps.answer_named_by_outcome outcome }
+{
+    match outcome {
+        Outcome::Found(n) | Outcome::Old(n, _) => Some(n),
+        _ => None,
+    }
+}
+
+fn answer_named(reply: Reply) -> Option<u64>
+    ensures { result ≡ steps.answer_named reply }
+{
+    match reply {
+        Reply::Fresh(n) | Reply::Refresh(n, _) | Reply::Old(n, _) => Some(n),
+        Reply::Shut(outcome) | Reply::Took(outcome) => answer_named_by_outcome(outcome),
+        _ => None,
+    }
+}
+
+fn record_named(entries: &[Entry], reply: Reply) -> Option<&Record>
+    ensures { option_copied result ≡ steps.record_named (reverse entries.now) reply }
+{
+    match answer_named(reply) {
+        Some(number) => record_at(entries, number),
+        None => None,
+    }
+}
+
+fn hash_of_event(event: &Event) -> Option<Hash>
+    ensures { result ≡ steps.hash_of_event event.now }
+{
+    match event {
+        Event::LoginOnline(_, LoginResult::Right(hash)) => *hash,
+        Event::Kept(Row::Hash(_, _, _, hash)) => Some(*hash),
+        _ => None,
+    }
+}
+
+fn login_named(reply: Reply) -> Option<u64>
+    ensures { result ≡ steps.login_named reply }
+{
+    match reply {
+        Reply::Hash(n) | Reply::Cached(_, n) => Some(n),
+        _ => None,
+    }
+}
+
+fn hash_at(entries: &[Entry], number: u64) -> Option<Hash>
+    ensures { result ≡ steps.hash_in (steps.event_at (reverse entries.now) number) }
+{
+    match event_at(entries, number) {
+        Some(event) => hash_of_event(event),
+        None => None,
+    }
+}
+
+fn hash_named(entries: &[Entry], reply: Reply) -> Option<Hash>
+    ensures { result ≡ steps.hash_named (reverse entries.now) reply }
+{
+    match login_named(reply) {
+        Some(number) => hash_at(entries, number),
+        None => None,
+    }
+}
+
+fn name_of_rule(rule: Option<&Rule>) -> Option<&Text>
+    ensures { option_copied result ≡ steps.name_of_rule (option_copied rule.entry) }
+{
+    match rule {
+        Some(rule) => Some(&rule.name),
+        None => None,
+    }
+}
+
+fn rule_in(found: Option<&Record>, place: u32) -> Option<&Text>
+    ensures { option_copied result ≡ steps.rule_in (option_copied found.entry) place }
+{
+    match found {
+        Some(Record::Rules(book)) => name_of_rule(book.rules.get(place as usize)),
+        _ => None,
+    }
+}
+
+fn rule_named(entries: &[Entry], reply: Reply) -> Option<&Text>
+    ensures { option_copied result ≡ steps.rule_named (reverse entries.now) reply }
+{
+    match reply {
+        Reply::Granted(By::Rule(number, place)) => rule_in(record_at(entries, number), place),
+        _ => None,
+    }
+}
+
+/// A copy of what is there.
+fn copy_of<T: Copied>(item: Option<&T>) -> Result<Option<T>, Memory>
+    ensures { IfOk result (λ copy. copy ≡ option_copied item.entry) }
+{
+    match item {
+        Some(item) => Ok(Some(item.copy()?)),
+        None => Ok(None),
+    }
+}
+
+/// What an entry of this number and reply gives, over the entries before it.
+pub fn given_by(entries: &[Entry], number: u64, reply: Reply) -> Result<Given, Memory>
+    ensures { IfOk result (λ given. given ≡ steps.given_by (reverse entries.now) number reply) }
+{
+    Ok(Given {
+        number,
+        reply,
+        found: copy_of(record_named(entries, reply))?,
+        hash: hash_named(entries, reply),
+        rule: copy_of(rule_named(entries, reply))?,
+    })
+}
