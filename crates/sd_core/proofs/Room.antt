@@ -22,7 +22,7 @@ falls_from_above : (m n : ℕ) (past : List Entry) → m ≤ n → falls_from m 
 falls_from_above m n [] le h = refl
 falls_from_above m n (e ∷ past) le h = grind (arith, nat_tests, common_steps, h)
 
-false_is_not_true : false ≡ true → ⊥
+pub false_is_not_true : false ≡ true → ⊥
 false_is_not_true h = cc
 
 stands_later : (b s : Bool) → b ≡ false → (b || s) ≡ true → s ≡ true
@@ -166,13 +166,13 @@ nothing_joined true b x y is f = refl
 nothing_joined false true x y is f = cc
 nothing_joined false false x y is f = absurd (false_is_not_true is)
 
-neither : (o w : Bool) → o ≡ false → w ≡ false → (o || w) ≡ false
+pub neither : (o w : Bool) → o ≡ false → w ≡ false → (o || w) ≡ false
 neither o w f g = cc
 
-same_number : (n : ℕ) → (n == n) ≡ true
+pub same_number : (n : ℕ) → (n == n) ≡ true
 same_number n = grind (arith, nat_tests)
 
-reserves_nothing : (e : Entry) (past : List Entry) → opens_request e.event e.reply ≡ false → opens_attempt e.event e.reply ≡ false → joined e.reply ≡ None →
+pub reserves_nothing : (e : Entry) (past : List Entry) → opens_request e.event e.reply ≡ false → opens_attempt e.event e.reply ≡ false → joined e.reply ≡ None →
     reserves (e ∷ past) e.number ≡ false
 reserves_nothing e past f g h =
     neither (is_open (e ∷ past) e.number) (is_some (waits_for (e ∷ past) e.number))

@@ -9,9 +9,7 @@ ghost use Rattle.sd_core.specs.Numbered as replies;
 use crate::access::access_of;
 use sd_base::{Memory, Text};
 use sd_journal::answers::{is_found, reply_to_ask};
-use sd_journal::logins::{
-    Login, cached_login, usable_hash, user_of, verdict_of, verdict_of_try,
-};
+use sd_journal::logins::{Login, cached_login, usable_hash, user_of, verdict_of, verdict_of_try};
 use sd_journal::past::{Standing, key_of, newest, outage_at, voids};
 use sd_journal::requests::{is_open, is_open_attempt, is_open_request, outcome_of, waits_for};
 use sd_journal::servers::{picked_server, was_picked};
@@ -189,9 +187,7 @@ fn reply_to_try(
     ensures { result ≡ steps.reply_to_try settings.now (reverse entries.now) t named right (option_copied user.entry) }
 {
     match user {
-        Some(user) => {
-            Reply::Tried(verdict_of_try(settings, entries, t, user, named, right))
-        }
+        Some(user) => { Reply::Tried(verdict_of_try(settings, entries, t, user, named, right)) }
         None => Reply::NoRequest,
     }
 }

@@ -88,7 +88,7 @@ fn of_refs(groups: &GroupRefs) -> u64
     total
 }
 
-fn of_record(record: &Record) -> u64
+fn of_record(found: &Record) -> u64
     ensures { result ≡ min (bytes.bytes_of_record record.now) (2 ^ 64 - 1) }
 {
     match record {
