@@ -89,9 +89,9 @@ fn of_refs(groups: &GroupRefs) -> u64
 }
 
 fn of_record(found: &Record) -> u64
-    ensures { result ≡ min (bytes.bytes_of_record record.now) (2 ^ 64 - 1) }
+    ensures { result ≡ min (bytes.bytes_of_record found.now) (2 ^ 64 - 1) }
 {
-    match record {
+    match found {
         Record::User(user) => of_user(user),
         Record::Group(group) => of_text(&group.dn)
             .saturating_add(of_text(&group.name))

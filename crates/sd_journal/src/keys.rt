@@ -71,10 +71,10 @@ fn is_group_named(answered: &Answered, name: &Text) -> bool
 }
 
 /// Whether a record speaks of a key by its name or its number.
-fn record_speaks(record: &Record, key: &Key) -> bool
-    ensures { result ≡ keyed.record_speaks record.now key.now }
+fn record_speaks(found: &Record, key: &Key) -> bool
+    ensures { result ≡ keyed.record_speaks found.now key.now }
 {
-    match record {
+    match found {
         Record::User(user) => match key {
             Key::User(name) => user.name == *name,
             Key::Uid(uid) => user.uid == *uid,

@@ -268,11 +268,11 @@ fn block_until(settings: &Settings, t: u64, wrong: Option<u64>) -> Option<Verdic
     }
 }
 
-fn block_of(settings: &Settings, entries: &[Entry], t: u64, user: &Text) -> Option<Verdict>
-    ensures { result ≡ logins.block_of settings.now (reverse entries.now) t user.now }
+fn block_of(settings: &Settings, t: u64, count: u128, last: Option<u64>) -> Option<Verdict>
+    ensures { result ≡ logins.block_of settings.now t count last }
 {
-    if is_at_limit(settings, wrong_count(entries, user)) {
-        block_until(settings, t, last_wrong(entries, user))
+    if is_at_limit(settings, count) {
+        block_until(settings, t, last)
     } else {
         None
     }
@@ -301,19 +301,19 @@ fn verdict_unless_blocked(block: Option<Verdict>, login: Login, named: u64, righ
 
 fn verdict_by_hash(
     settings: &Settings,
-    entries: &[Entry],
     t: u64,
-    user: &Text,
+    count: u128,
+    last: Option<u64>,
     login: Option<Login>,
     named: u64,
     right: bool,
 ) -> Verdict
-    ensures { result ≡ logins.verdict_by_hash settings.now (reverse entries.now) t user.now (option_map seen.login login) named right }
+    ensures { result ≡ logins.verdict_by_hash settings.now t count last (option_map seen.login login) named right }
 {
     match login {
         Some(l) => match expired(settings, t, l) {
             Some(expiry) => Verdict::Expired(expiry),
-            None => verdict_unless_blocked(block_of(settings, entries, t, user), l, named, right),
+            None => verdict_unless_blocked(block_of(settings, t, count, last), l, named, right),
         },
         None => Verdict::Unknown,
     }
@@ -342,7 +342,8 @@ pub fn verdict_of(
     ensures { result ≡ logins.verdict_of settings.now (reverse entries.now) t user.now named right }
 {
     let login = usable_hash(settings, entries, user);
-    verdict_by_hash(settings, entries, t, user, login, named, right)
+    let (count, last) = (wrong_count(entries, user), last_wrong(entries, user));
+    verdict_by_hash(settings, t, count, last, login, named, right)
 }
 
 fn usable_login(settings: &Settings, entries: &[Entry], user: &Text) -> Option<Login>

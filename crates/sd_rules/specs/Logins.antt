@@ -138,10 +138,11 @@ block_until s t (Some wrong) =
     Some (verdicts.Blocked (Some (min (wrong + 60 * s.delay_minutes) (2 ^ 64 - 1))))
     else None
 
-abbrev pub block_of : Settings → List Entry → ℕ → List ℕ → Option Verdict
-block_of s past t user = if is_at_limit s (wrong_count past user) then block_until s t (last_wrong past user) else None
+-- the block that so many wrong guesses, of which the last was at a moment, bring at t
+abbrev pub block_of : Settings → ℕ → ℕ → Option ℕ → Option Verdict
+block_of s t w wrong = if is_at_limit s w then block_until s t wrong else None
 
--- the verdict where nothing but the hash that was compared and the guess count
+-- the verdict where only the hash that was compared and the guess matter
 abbrev pub verdict_by_guess : Login → ℕ → Bool → Verdict
 verdict_by_guess l named right =
     if not (l.number == named) then verdicts.Stale l.number
@@ -152,11 +153,12 @@ abbrev pub verdict_unless_blocked : Option Verdict → Login → ℕ → Bool �
 verdict_unless_blocked (Some block) l named right = block
 verdict_unless_blocked None l named right = verdict_by_guess l named right
 
-abbrev pub verdict_by_hash : Settings → List Entry → ℕ → List ℕ → Option Login → ℕ → Bool → Verdict
-verdict_by_hash s past t user None named right = verdicts.Unknown
-verdict_by_hash s past t user (Some l) named right =
+-- the verdict by the hash entry, the wrong guesses and the moment of the last of them
+abbrev pub verdict_by_hash : Settings → ℕ → ℕ → Option ℕ → Option Login → ℕ → Bool → Verdict
+verdict_by_hash s t w wrong None named right = verdicts.Unknown
+verdict_by_hash s t w wrong (Some l) named right =
     if is_expired s t l then verdicts.Expired (expiry_of s l)
-    else verdict_unless_blocked (block_of s past t user) l named right
+    else verdict_unless_blocked (block_of s t w wrong) l named right
 
 -- the hash entry of a user, where hashes are used
 abbrev pub usable_hash : Settings → List Entry → List ℕ → Option Login
@@ -164,7 +166,8 @@ usable_hash s past user = if s.cache_credentials then hash_entry past user else 
 
 -- the verdict on a guess: the first case that holds
 abbrev pub verdict_of : Settings → List Entry → ℕ → List ℕ → ℕ → Bool → Verdict
-verdict_of s past t user named right = verdict_by_hash s past t user (usable_hash s past user) named right
+verdict_of s past t user named right =
+    verdict_by_hash s t (wrong_count past user) (last_wrong past user) (usable_hash s past user) named right
 
 -- the first moment at which an online login lets its hash be used no more without the directory
 abbrev pub cached_until : Settings → Login → ℕ
