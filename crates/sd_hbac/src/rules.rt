@@ -1,9 +1,10 @@
 // Account checks by the access rules of FreeIPA.
-ghost use Rattle.std.specs.Prelude.{◌≡◌, ◌<◌, ◌^◌, length};
+ghost use Rattle.std.specs.Prelude.{◌≡◌, ◌<◌, ◌^◌, length, IfSome, IfNone};
 ghost use Rattle.std.specs.Option.{option_map};
 ghost use Rattle.sd_rules.specs.Access as access;
 ghost use Rattle.sd_rules.specs.Keys as keyed;
 ghost use Rattle.sd_hbac.specs.Seen as seen;
+ghost use Rattle.sd_hbac.specs.Grants.{Grants, NoneMatches};
 
 use sd_base::{Text, Texts};
 use sd_rules::{Element, Rule, RuleBook, Service, Who};
@@ -109,7 +110,11 @@ fn least_matching<'a>(services: &[Service], who: &Who<'_>, rules: &'a [Rule]) ->
 /// The rule that grants, by its place in the book, counted from 0.
 pub fn allowed(book: &RuleBook, who: &Who<'_>) -> Option<u32>
     requires { length book.now.rules < 2 ^ 32 }
-    ensures { result ≡ access.granting_rule book.now (seen.asker who.now) }
+    ensures granting { result ≡ access.granting_rule book.now (seen.asker who.now) }
+
+    // The rule found is enabled and matches, and has the least name of these and the first place.
+    ensures found { IfSome result (Grants book.now (seen.asker who.now)) }
+    ensures none { IfNone result (NoneMatches book.now (seen.asker who.now)) }
 {
     let least = least_matching(book.services.items(), who, book.rules.items());
     least.map(|rule| rule.place)

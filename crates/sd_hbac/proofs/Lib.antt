@@ -1,0 +1,3 @@
+mod Matching
+mod Order
+mod Least
