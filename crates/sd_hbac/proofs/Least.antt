@@ -1,11 +1,11 @@
 -- The rule that is found by going over the rules is the one that grants.
-use Rattle.std.proofs.Common.{◌≡◌, ◌≢◌, ◌<◌, ◌+◌, ℕ, zero, suc, Bool, true, false, cond, List, [], ◌∷◌, Option, Some, None, refl, sym, ap, ◌∙◌, subst, arith, add-zero}
-use Rattle.std.specs.Prelude.{IsTrue, slice_get, IfSome, IfNone}
+use Rattle.std.proofs.Common.{◌≡◌, ◌≢◌, ◌<◌, ◌+◌, ℕ, zero, suc, Bool, true, false, cond, List, [], ◌∷◌, Option, Some, None, refl, ◌∙◌, subst, arith}
+use Rattle.std.specs.Prelude.{slice_get, IfSome, IfNone}
 use Rattle.sd_rules.specs.declared.records.Rule.{Rule}
 use Rattle.sd_rules.specs.declared.records.RuleBook.{RuleBook}
 use Rattle.sd_rules.specs.declared.records.Service.{Service}
 use Rattle.sd_rules.specs.Access.{Asker, Placed, comes_before, lesser_of, rule_matches, least_matching, place_of, granting_rule}
-use Rattle.sd_hbac.specs.Grants.{RuleMatches, NoneMatches, Grants}
+use Rattle.sd_hbac.specs.Grants.{NoneMatches, Grants}
 use Rattle.sd_hbac.proofs.Matching.{rule_from_test, test_from_rule}
 use Rattle.sd_hbac.proofs.Order.{not_before_itself, not_before_back, not_before_onward}
 
@@ -52,11 +52,11 @@ module _ (services : List Service) (who : Asker) (p : ℕ) (rule : Rule) (rules 
     named = f.named;
     matches = f.matches;
     least =
-      at_each (λ j r. rule_matches services who r ≡ true → comes_before r.name b.name ≡ false) (λ h. cc)
-      (λ j r is h. f.least j r is h);
+        at_each (λ j r. rule_matches services who r ≡ true → comes_before r.name b.name ≡ false) (λ h. cc)
+        (λ j r is h. f.least j r is h);
     first = λ j r below is.
-      at_each (λ i x. i < suc f.index → rule_matches services who x ≡ true → x.name ≢ b.name) (λ h k same. cc)
-      (λ i x at under h. f.first i x (omega arith) at h) j r is below;
+        at_each (λ i x. i < suc f.index → rule_matches services who x ≡ true → x.name ≢ b.name) (λ h k same. cc)
+        (λ i x at under h. f.first i x (omega arith) at h) j r is below;
   }
 
   -- the first rule matches, and no other has a lesser name
@@ -69,7 +69,7 @@ module _ (services : List Service) (who : Asker) (p : ℕ) (rule : Rule) (rules 
     named = refl;
     matches = e;
     least =
-      at_each (λ j r. rule_matches services who r ≡ true → comes_before r.name rule.name ≡ false) (λ h. not_before_itself rule.name) f;
+        at_each (λ j r. rule_matches services who r ≡ true → comes_before r.name rule.name ≡ false) (λ h. not_before_itself rule.name) f;
     first = λ j r below is h same. absurd (omega arith);
   }
 
@@ -83,12 +83,12 @@ module _ (services : List Service) (who : Asker) (p : ℕ) (rule : Rule) (rules 
     named = f.named;
     matches = f.matches;
     least =
-      at_each (λ j r. rule_matches services who r ≡ true → comes_before r.name b.name ≡ false) (λ h. not_before_back b.name rule.name e)
-      (λ j r is h. f.least j r is h);
+        at_each (λ j r. rule_matches services who r ≡ true → comes_before r.name b.name ≡ false) (λ h. not_before_back b.name rule.name e)
+        (λ j r is h. f.least j r is h);
     first = λ j r below is.
-      at_each (λ i x. i < suc f.index → rule_matches services who x ≡ true → x.name ≢ b.name)
-      (λ under h same. let not_less : comes_before b.name rule.name ≡ false = subst (λ (n : List ℕ). comes_before n rule.name ≡ false) same (not_before_itself rule.name) in cc)
-      (λ i x at under h. f.first i x (omega arith) at h) j r is below;
+        at_each (λ i x. i < suc f.index → rule_matches services who x ≡ true → x.name ≢ b.name)
+        (λ under h same. let not_less : comes_before b.name rule.name ≡ false = subst (λ (n : List ℕ). comes_before n rule.name ≡ false) same (not_before_itself rule.name) in cc)
+        (λ i x at under h. f.first i x (omega arith) at h) j r is below;
   }
 
   of_both : (b : Placed) (c : Bool) → comes_before b.name rule.name ≡ c → rule_matches services who rule ≡ true → LeastOf services who (p + 1) rules b → LeastOf services who p (rule ∷ rules) (cond c b mine)
@@ -117,9 +117,9 @@ module _ (book : RuleBook) (who : Asker) where
         there = subst (λ (n : ℕ). slice_get book.rules n ≡ Some f.rule) same f.there;
         matches = rule_from_test book.services who f.rule f.matches;
         least = λ other r is m k.
-          let not_less : comes_before r.name b.name ≡ false = f.least other r is (test_from_rule book.services who r m) in
-          let less : comes_before r.name b.name ≡ true = subst (λ (n : List ℕ). comes_before r.name n ≡ true) f.named k in
-          cc;
+            let not_less : comes_before r.name b.name ≡ false = f.least other r is (test_from_rule book.services who r m) in
+            let less : comes_before r.name b.name ≡ true = subst (λ (n : List ℕ). comes_before r.name n ≡ true) f.named k in
+            cc;
         first = λ earlier r below is m e. f.first earlier r (omega arith) is (test_from_rule book.services who r m) (e ∙ f.named);
       }
 

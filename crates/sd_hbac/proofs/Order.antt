@@ -1,10 +1,8 @@
 -- The byte order of names is a strict order, in which of three names the first is not less than the third where it is not less than the second, nor that than the third.
-use Rattle.std.proofs.Common.{◌≡◌, ◌≢◌, ℕ, Bool, true, false, List, refl, sym, ap, ◌∙◌, arith}
-use Rattle.std.specs.Prelude.{IsTrue}
+use Rattle.std.proofs.Common.{◌≡◌, ℕ, Bool, true, false, List, refl, sym, ap, ◌∙◌, arith}
 use Rattle.std.proofs.Common.{Ordering, Less, Equal, Greater}
 use Rattle.std.specs.Ordering.{nat_cmp, is_lt, is_le, ordering_reverse}
 use Rattle.std.specs.BTreeMap.Comparable.{le_lt_trans}
-use Rattle.std.specs.Cmp.{IsTotalOrder}
 use Rattle.std.specs.Cmp.Lexicographic.{slice_cmp}
 use Rattle.std.proofs.lemmas.Cmp.{same_from_slice_cmp, nat_list_cmp_total}
 use Rattle.std.proofs.lemmas.Bool.Decides.{nat_tests}

@@ -1,5 +1,5 @@
 -- What it means that a rule grants, said of all the rules of a book at once.
-use Rattle.std.specs.Prelude.{◌≡◌, ◌≢◌, ◌<◌, ℕ, List, Option, Some, IsTrue, Contains, Any, slice_get}
+use Rattle.std.specs.Prelude.{◌≡◌, ◌≢◌, ◌<◌, ℕ, List, Some, IsTrue, Contains, Any, slice_get}
 use Rattle.sd_rules.specs.declared.records.Element.{Element}
 use Rattle.sd_rules.specs.declared.records.Rule.{Rule}
 use Rattle.sd_rules.specs.declared.records.RuleBook.{RuleBook}
@@ -42,6 +42,6 @@ pub record Grants (book : RuleBook) (who : Asker) (place : ℕ) : Type 0 where
   pub there : slice_get book.rules place ≡ Some rule
   pub matches : RuleMatches book.services who rule
   pub least :
-    (other : ℕ) (r : Rule) → slice_get book.rules other ≡ Some r → RuleMatches book.services who r → ¬ (IsTrue (comes_before r.name rule.name))
+      (other : ℕ) (r : Rule) → slice_get book.rules other ≡ Some r → RuleMatches book.services who r → ¬ (IsTrue (comes_before r.name rule.name))
   pub first :
-    (earlier : ℕ) (r : Rule) → earlier < place → slice_get book.rules earlier ≡ Some r → RuleMatches book.services who r → r.name ≢ rule.name
+      (earlier : ℕ) (r : Rule) → earlier < place → slice_get book.rules earlier ≡ Some r → RuleMatches book.services who r → r.name ≢ rule.name

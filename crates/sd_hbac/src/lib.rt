@@ -6,3 +6,6 @@ pub mod rules;
 
 pub use lists::simple;
 pub use rules::allowed;
+
+#[cfg(test)]
+mod tests;

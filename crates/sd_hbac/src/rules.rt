@@ -73,9 +73,9 @@ fn rule_matches(services: &[Service], who: &Who<'_>, rule: &Rule) -> bool
 
 /// A rule by its place in the book, counted from 0, and its name.
 #[derive(Clone, Copy)]
-pub struct Placed<'a> {
-    pub place: u32,
-    pub name: &'a Text,
+struct Placed<'a> {
+    place: u32,
+    name: &'a Text,
 }
 
 /// Of two rules the one of the lesser name, and the first where the names are equal.
