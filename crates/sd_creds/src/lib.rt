@@ -1,0 +1,8 @@
+// Stored hashes of passwords, the salts they are made with, and what is kept of each user's logins.
+#![tactic(auto)]
+
+pub mod hashes;
+pub mod salts;
+
+pub use hashes::{hash, verify};
+pub use salts::Salts;
