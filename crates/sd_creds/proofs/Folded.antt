@@ -30,12 +30,14 @@ no_bits d x e f = ap (λ (z : ℕ). bit_or z x) e ∙ ap (λ (z : ℕ). bit_or 0
 
 pub one_more : (d : ℕ) (a b : List ℕ) (n : ℕ) → ((d ≡ 0) ↔ EqualBelow a b n) → (bit_or d (bit_xor (get_or a n 0) (get_or b n 0)) ≡ 0) ↔ EqualBelow a b (n + 1)
 one_more d a b n h =
-    let x : ℕ = bit_xor (get_or a n 0) (get_or b n 0) in
-    (λ e. below_more (λ k. get_or a k 0 ≡ get_or b k 0) n (h.0 (no_bit_left d x e)) (same_bits (get_or a n 0) (get_or b n 0) (no_bit_right d x e)),
-    λ all. no_bits d x (h.1 (λ k lt. all k (omega arith))) (no_bit_differs (get_or a n 0) (get_or b n 0) (all n (omega arith))))
+    let x : ℕ = bit_xor (get_or a n 0) (get_or b n 0) in (
+      λ e. below_more (λ k. get_or a k 0 ≡ get_or b k 0) n (h.0 (no_bit_left d x e)) (same_bits (get_or a n 0) (get_or b n 0) (no_bit_right d x e)),
+      λ all. no_bits d x (h.1 (λ k lt. all k (omega arith))) (no_bit_differs (get_or a n 0) (get_or b n 0) (all n (omega arith))),
+    )
 
 -- all were compared
 pub all_compared : (d : ℕ) (a b : List ℕ) (n : ℕ) → length a ≡ n → length b ≡ n → ((d ≡ 0) ↔ EqualBelow a b n) → (IsTrue (nat_eq d 0)) ↔ (a ≡ b)
-all_compared d a b n la lb h =
-    (λ e. ext_get_or 0 a b (omega arith) (λ i lt. h.0 (eqb-true d 0 e) i (omega arith)),
-    λ e. ap (λ (z : ℕ). nat_eq z 0) (h.1 (λ k lt. ap (λ (l : List ℕ). get_or l k 0) e)))
+all_compared d a b n la lb h = (
+  λ e. ext_get_or 0 a b (omega arith) (λ i lt. h.0 (eqb-true d 0 e) i (omega arith)),
+  λ e. ap (λ (z : ℕ). nat_eq z 0) (h.1 (λ k lt. ap (λ (l : List ℕ). get_or l k 0) e)),
+)

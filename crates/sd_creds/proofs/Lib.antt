@@ -1,2 +1,5 @@
 mod Rounds
 mod Folded
+mod Pieces
+mod Decoded
+mod Read

@@ -3,6 +3,8 @@
 
 pub mod hashes;
 pub mod salts;
+pub mod texts;
 
 pub use hashes::{hash, verify};
 pub use salts::Salts;
+pub use texts::{HashFault, hash_text, read_hash};
