@@ -1,10 +1,12 @@
 -- Which texts spell which DN (RFC 4514, in this project's profile). A spelling says how each thing of
 -- the DN is written; its text and its meaning are functions of it.
 use Rattle.std.specs.Prelude.{◌≡◌, ℕ, ◌+◌, ◌*◌, Bool, true, false, ◌&&◌, ◌||◌, not, ◌==◌, List, [], ◌∷◌, ◌++◌, map, replicate, is_none}
-use Rattle.std.specs.Prelude.{if◌then◌else◌, Option, Some, None, ◌⊎◌}
+use Rattle.std.specs.Prelude.{if◌then◌else◌, Option, Some, None, ◌⊎◌, ◌<◌, ◌≤◌, length, take, Result, Ok, Err}
 use Rattle.std.specs.List.{flat_map, list_all}
 use Rattle.std.specs.Char.{is_ascii_hexdigit, digit_value}
 use Rattle.sd_dn.specs.declared.Pair.{Pair}
+use Rattle.sd_dn.specs.declared.DnFault.{DnFault}
+use Rattle.sd_dn.specs.declared.DnFault.TheVariants as faults
 use Rattle.sd_dn.specs.Bytes.{is_type_byte, is_reserved, is_special}
 
 -- A byte of a value is written as itself, behind a backslash, or behind a backslash as two hexadecimal digits.
@@ -135,3 +137,17 @@ pub record IsTextOf (text : List ℕ) (dn : List (List Pair)) (d : WrittenDn) : 
 -- The text spells the DN: the empty text the empty DN, any other text a DN of one RDN or more.
 abbrev pub Spells : List ℕ → List (List Pair) → Type 0
 Spells text dn = ((text ≡ []) × (dn ≡ [])) ⊎ ((d : WrittenDn) × IsTextOf text dn d)
+
+-- The place of the first byte with which no DN goes on, or the length of a text that ends too soon: the
+-- bytes before it go on to a DN in some way, and with the byte there they don't in any.
+pub record IsFirstBad (text : List ℕ) (place : ℕ) : Type 0 where
+  pub within : place ≤ length text
+  pub front : (more : List ℕ) × (dn : List (List Pair)) × Spells (take place text ++ more) dn
+  pub stop : place < length text → (more : List ℕ) → (dn : List (List Pair)) → Spells (take (place + 1) text ++ more) dn → ⊥
+  pub short : place ≡ length text → (dn : List (List Pair)) → Spells text dn → ⊥
+
+-- What was answered for a text that spells the DN: it, unless memory ran out.
+abbrev pub Reads : Result (List (List Pair)) DnFault → List (List Pair) → Type 0
+Reads (Ok read) dn = read ≡ dn
+Reads (Err (faults.BadDn place)) dn = ⊥
+Reads (Err faults.Memory) dn = Unit {0}

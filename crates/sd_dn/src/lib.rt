@@ -8,6 +8,7 @@ pub mod compare;
 pub mod read;
 
 pub use compare::Leaf;
+pub use read::read_dn;
 
 
 /// An attribute's type and its value, of which nothing is escaped.

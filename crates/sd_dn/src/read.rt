@@ -1,6 +1,8 @@
 // Reading a DN from its text.
 ghost use Rattle.std.specs.Prelude.{◌≡◌, ℕ, Bool, List, [], length, IfOk, OnOk, Err, ◌≢◌};
+ghost use Rattle.sd_dn.specs.Grammar.{Spells, Reads, IsFirstBad};
 ghost use Rattle.sd_dn.specs.Reading as reading;
+ghost use Rattle.sd_dn.specs.declared.Pair.{Pair};
 ghost use Rattle.sd_dn.specs.declared.read.Stage.TheVariants as stages;
 
 use crate::bytes::{hex_pair, is_reserved, is_special, is_type_byte};
@@ -252,6 +254,18 @@ impl Reader {
         dn.push(rdn)?;
         Ok(dn)
     }
+}
+
+/// Reads a DN from its text (RFC 4514, in the profile of the grammar in `specs/`).
+pub fn read_dn(alloc: Global, text: &[u8]) -> Result<Dn, DnFault>
+    // What is read is spelled so.
+    ensures read { IfOk result (λ dn. Spells text.now dn) }
+    // What is spelled so is read.
+    ensures all { (dn : List (List Pair)) → Spells text.now dn → Reads result dn }
+    // What no DN spells is refused at the first byte with which no DN goes on.
+    ensures bad { (place : ℕ) → result ≡ Err (DnFault.BadDn place) → IsFirstBad text.now place }
+{
+    read_text(alloc, text)
 }
 
 /// Reads a text from its first byte to its end.
