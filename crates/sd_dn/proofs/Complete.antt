@@ -1,14 +1,14 @@
 -- What a spelling spells is read.
-use Rattle.std.proofs.Common.{◌≡◌, ℕ, zero, suc, ◌+◌, ◌<◌, ◌≤◌, Bool, true, false, cond, eqb, ltb, List, [], ◌∷◌, ◌++◌, length, take, map, Option, Some, None, Result, Ok, Err, refl, sym, ap, subst, ◌∙◌, append_assoc, arith, inl, inr, ◌⊎◌}
-use Rattle.std.specs.Prelude.{◌==◌, ◌&&◌, ◌||◌, not}
+use Rattle.std.proofs.Common.{◌≡◌, ℕ, zero, suc, Bool, true, false, cond, ltb, List, [], ◌∷◌, ◌++◌, length, take, map, Ok, refl, sym, ap, subst, ◌∙◌, append_assoc, arith, inl, inr}
+use Rattle.std.specs.Prelude.{◌==◌, ◌&&◌, ◌||◌}
 use Rattle.std.specs.List.{flat_map, list_all}
 use Rattle.std.specs.Char.{is_ascii_hexdigit}
-use Rattle.std.proofs.lemmas.Bool.{true≢false, cases_Bool, not-true, ne_eqb, and_parts, or_parts, and_from, le-ltb, eqb-true}
+use Rattle.std.proofs.lemmas.Bool.{true≢false, cases_Bool, not-true, ne_eqb, and_parts, or_parts, le-ltb, eqb-true}
 use Rattle.std.proofs.lemmas.List.{append-nil, map_push, length_push, length-map}
 use Rattle.sd_dn.specs.declared.Pair.{Pair}
 use Rattle.sd_dn.specs.Bytes.{is_type_byte, is_reserved, is_special}
-use Rattle.sd_dn.specs.Grammar.{WrittenByte, Plain, Escaped, Hex, written_byte, meant, is_written_byte, is_plain_space, begins_well, with_last, trimmed, WrittenPair, spaces, written_pair, is_type, is_written_pair, pair_of, last_pair_of, WrittenRdn, written_pairs, written_rdn, is_written_rdn, rdn_of, last_rdn_of, WrittenDn, written_rdns, written_dn, is_written_dn, dn_of, begins_with_space, IsTextOf, Spells}
-use Rattle.sd_dn.specs.Reading.{Progress, Start, BeforeType, InType, BeforeEquals, InValue, InEscape, InHex, grown, run}
+use Rattle.sd_dn.specs.Grammar.{WrittenByte, Plain, Escaped, Hex, written_byte, meant, is_written_byte, is_plain_space, begins_well, with_last, trimmed, WrittenPair, spaces, written_pair, is_type, is_written_pair, pair_of, WrittenRdn, written_pairs, written_rdn, is_written_rdn, rdn_of, WrittenDn, written_rdns, written_dn, is_written_dn, dn_of, begins_with_space, Spells}
+use Rattle.sd_dn.specs.Reading.{Progress, Start, BeforeType, InType, BeforeEquals, InValue, grown, run}
 
 -- ---- bytes
 
@@ -145,11 +145,11 @@ whole_pair dn rdn p rest ok =
     let a = and_parts (is_type p.name) (list_all is_written_byte p.value && begins_well p.value) ok in
     let b = and_parts (list_all is_written_byte p.value) (begins_well p.value) a.1 in
     ap (run (BeforeType dn rdn)) (regrouped p rest)
-      ∙ (spaces_before_type p.lead dn rdn _
-      ∙ (whole_type p.name dn rdn _ a.0
-      ∙ (equals p.before dn rdn p.name _
-      ∙ (spaces_behind_equals p.after dn rdn p.name _
-      ∙ letters p.value dn rdn p.name [] rest b.0 b.1))))
+    ∙ (spaces_before_type p.lead dn rdn _
+    ∙ (whole_type p.name dn rdn _ a.0
+    ∙ (equals p.before dn rdn p.name _
+    ∙ (spaces_behind_equals p.after dn rdn p.name _
+    ∙ letters p.value dn rdn p.name [] rest b.0 b.1))))
 
 plus : (dn : List (List Pair)) (rdn : List Pair) (p : WrittenPair) (rest : List ℕ) → run (in_value dn rdn p.name p.value) (43 ∷ rest) ≡ run (BeforeType dn (rdn ++ pair_of p ∷ [])) rest
 plus dn rdn p rest = ap (λ (w : List ℕ). run (BeforeType dn (rdn ++ record { name = p.name; value = w } ∷ [])) rest) (take_trimmed p.value)
@@ -163,17 +163,17 @@ whole_pairs (p ∷ ps) dn rdn rest ok =
     let a = and_parts (is_written_pair p) (list_all is_written_pair ps) ok in
     let apart : written_pairs (p ∷ ps) ++ rest ≡ written_pair p ++ (43 ∷ (written_pairs ps ++ rest)) = append_assoc (written_pair p ++ 43 ∷ []) (written_pairs ps) rest ∙ append_assoc (written_pair p) (43 ∷ []) (written_pairs ps ++ rest) in
     ap (run (BeforeType dn rdn)) apart
-      ∙ (whole_pair dn rdn p _ a.0
-      ∙ (plus dn rdn p (written_pairs ps ++ rest)
-      ∙ (whole_pairs ps dn (rdn ++ pair_of p ∷ []) rest a.1
-      ∙ ap (λ (w : List Pair). run (BeforeType dn w) rest) (append_assoc rdn (pair_of p ∷ []) (map pair_of ps)))))
+    ∙ (whole_pair dn rdn p _ a.0
+    ∙ (plus dn rdn p (written_pairs ps ++ rest)
+    ∙ (whole_pairs ps dn (rdn ++ pair_of p ∷ []) rest a.1
+    ∙ ap (λ (w : List Pair). run (BeforeType dn w) rest) (append_assoc rdn (pair_of p ∷ []) (map pair_of ps)))))
 
 whole_rdn : (dn : List (List Pair)) (r : WrittenRdn) (rest : List ℕ) → is_written_rdn r ≡ true → run (BeforeType dn []) (written_rdn r ++ rest) ≡ run (in_value dn (map pair_of r.pairs) r.last.name r.last.value) rest
 whole_rdn dn r rest ok =
     let a = and_parts (list_all is_written_pair r.pairs) (is_written_pair r.last) ok in
     ap (run (BeforeType dn [])) (append_assoc (written_pairs r.pairs) (written_pair r.last) rest)
-      ∙ (whole_pairs r.pairs dn [] (written_pair r.last ++ rest) a.0
-      ∙ whole_pair dn (map pair_of r.pairs) r.last rest a.1)
+    ∙ (whole_pairs r.pairs dn [] (written_pair r.last ++ rest) a.0
+    ∙ whole_pair dn (map pair_of r.pairs) r.last rest a.1)
 
 whole_rdns : (rs : List WrittenRdn) (dn : List (List Pair)) (rest : List ℕ) → list_all is_written_rdn rs ≡ true → run (BeforeType dn []) (written_rdns rs ++ rest) ≡ run (BeforeType (dn ++ map rdn_of rs) []) rest
 whole_rdns [] dn rest ok = ap (λ (w : List (List Pair)). run (BeforeType w []) rest) (sym (append-nil dn))
@@ -181,17 +181,17 @@ whole_rdns (r ∷ rs) dn rest ok =
     let a = and_parts (is_written_rdn r) (list_all is_written_rdn rs) ok in
     let apart : written_rdns (r ∷ rs) ++ rest ≡ written_rdn r ++ (44 ∷ (written_rdns rs ++ rest)) = append_assoc (written_rdn r ++ 44 ∷ []) (written_rdns rs) rest ∙ append_assoc (written_rdn r) (44 ∷ []) (written_rdns rs ++ rest) in
     ap (run (BeforeType dn [])) apart
-      ∙ (whole_rdn dn r _ a.0
-      ∙ (comma dn (map pair_of r.pairs) r.last (written_rdns rs ++ rest)
-      ∙ (whole_rdns rs (dn ++ rdn_of r ∷ []) rest a.1
-      ∙ ap (λ (w : List (List Pair)). run (BeforeType w []) rest) (append_assoc dn (rdn_of r ∷ []) (map rdn_of rs)))))
+    ∙ (whole_rdn dn r _ a.0
+    ∙ (comma dn (map pair_of r.pairs) r.last (written_rdns rs ++ rest)
+    ∙ (whole_rdns rs (dn ++ rdn_of r ∷ []) rest a.1
+    ∙ ap (λ (w : List (List Pair)). run (BeforeType w []) rest) (append_assoc dn (rdn_of r ∷ []) (map rdn_of rs)))))
 
 whole_dn : (d : WrittenDn) → is_written_dn d ≡ true → run (BeforeType [] []) (written_dn d) ≡ Ok (dn_of d)
 whole_dn d ok =
     let a = and_parts (list_all is_written_rdn d.rdns) (is_written_rdn d.last) ok in
     whole_rdns d.rdns [] (written_rdn d.last) a.0
-      ∙ (ap (run (BeforeType (map rdn_of d.rdns) [])) (sym (append-nil (written_rdn d.last)))
-      ∙ whole_rdn (map rdn_of d.rdns) d.last [] a.1)
+    ∙ (ap (run (BeforeType (map rdn_of d.rdns) [])) (sym (append-nil (written_rdn d.last)))
+    ∙ whole_rdn (map rdn_of d.rdns) d.last [] a.1)
 
 from_start : (text : List ℕ) (dn : List (List Pair)) → begins_with_space text ≡ false → run (BeforeType [] []) text ≡ Ok dn → run (Start [] []) text ≡ Ok dn
 from_start [] dn first h = absurd cc

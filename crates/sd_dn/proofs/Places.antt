@@ -1,13 +1,12 @@
 -- Where a text is refused.
-use Rattle.std.proofs.Common.{◌≡◌, ℕ, zero, suc, ◌+◌, ◌-◌, ◌<◌, ◌≤◌, List, [], ◌∷◌, ◌++◌, length, take, Option, Some, None, Result, Ok, Err, refl, sym, ap, subst, ◌∙◌, add-one, arith, inl, inr, ◌⊎◌}
+use Rattle.std.proofs.Common.{◌≡◌, ℕ, suc, ◌+◌, ◌<◌, List, [], ◌∷◌, ◌++◌, length, take, Option, Some, None, Result, Ok, Err, refl, sym, ap, subst, ◌∙◌, add-one, arith, inl, inr, ◌⊎◌}
 use Rattle.std.specs.Prelude.{IfOk}
 use Rattle.std.specs.Option.{option_map_or}
 use Rattle.std.specs.Prelude.{◌*◌}
-use Rattle.std.specs.Char.{is_ascii_hexdigit, digit_value}
+use Rattle.std.specs.Char.{digit_value}
 use Rattle.sd_dn.specs.declared.Pair.{Pair}
 use Rattle.sd_dn.specs.declared.DnFault.{DnFault}
 use Rattle.sd_dn.specs.declared.DnFault.TheVariants as faults
-use Rattle.sd_dn.specs.Bytes.{hex_pair}
 use Rattle.sd_dn.specs.Grammar.{Spells, IsFirstBad, Reads}
 use Rattle.sd_dn.specs.Reading.{Progress, Start, BeforeType, InType, BeforeEquals, InValue, InEscape, InHex, step, ending, run, Gives, pair_made}
 use Rattle.sd_dn.proofs.Complete.{is_read}
@@ -94,6 +93,12 @@ first_bad text place left at e =
       stop = λ lt more dn spelled. let u = t.stop lt more in both (take (place + 1) text ++ more) dn u.0 (rw add-one u.1) spelled;
       short = λ end dn spelled. both text dn left e spelled;
     }
+
+ok_is : (x y : List (List Pair)) → done x ≡ done y → x ≡ y
+ok_is x y e = cc
+
+pub one_meaning : (text : List ℕ) (a b : List (List Pair)) → Spells text a → Spells text b → a ≡ b
+one_meaning text a b p q = ok_is a b (sym (is_read text a p) ∙ is_read text b q)
 
 -- ---- what an answer says
 

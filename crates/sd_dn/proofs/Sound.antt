@@ -1,17 +1,17 @@
 -- What is read is spelled so.
-use Rattle.std.proofs.Common.{◌≡◌, ℕ, zero, suc, ◌+◌, ◌<◌, ◌≤◌, Bool, true, false, cond, eqb, ltb, List, [], ◌∷◌, ◌++◌, length, take, map, Option, Some, None, Result, Ok, Err, refl, sym, ap, subst, ◌∙◌, append_assoc, arith, inl, inr, ◌⊎◌}
-use Rattle.std.specs.Prelude.{◌==◌, ◌&&◌, ◌||◌, not}
+use Rattle.std.proofs.Common.{◌≡◌, ℕ, zero, suc, ◌+◌, Bool, true, false, cond, ltb, List, [], ◌∷◌, ◌++◌, length, take, map, Option, Some, None, Result, Ok, Err, refl, sym, ap, subst, ◌∙◌, append_assoc, inl, inr, ◌⊎◌}
+use Rattle.std.specs.Prelude.{◌==◌, ◌&&◌, ◌||◌}
 use Rattle.std.specs.Option.{option_map_or}
 use Rattle.std.specs.List.{flat_map, list_all}
 use Rattle.std.specs.Char.{is_ascii_hexdigit}
-use Rattle.std.proofs.lemmas.Bool.{true≢false, cases_Bool, not-true, ne_eqb, and_parts, or_parts, or_from, and_from, le-ltb, eqb-true, not_from_false}
+use Rattle.std.proofs.lemmas.Bool.{and_parts, or_parts, or_from, and_from, eqb-true, not_from_false}
 use Rattle.std.proofs.lemmas.List.{append-nil, map_push, length_push, length-map}
 use Rattle.std.proofs.lemmas.List.Concat.{flat_map-append}
 use Rattle.sd_dn.specs.declared.Pair.{Pair}
-use Rattle.sd_dn.specs.Bytes.{is_type_byte, is_reserved, is_special, hex_pair}
-use Rattle.sd_dn.specs.Grammar.{WrittenByte, Plain, Escaped, Hex, written_byte, meant, is_written_byte, is_plain_space, begins_well, with_last, trimmed, WrittenPair, spaces, written_pair, is_type, is_written_pair, pair_of, last_pair_of, WrittenRdn, written_pairs, written_rdn, is_written_rdn, rdn_of, last_rdn_of, WrittenDn, written_rdns, written_dn, is_written_dn, dn_of, begins_with_space, IsTextOf, Spells}
-use Rattle.sd_dn.specs.Reading.{Progress, Start, BeforeType, InType, BeforeEquals, InValue, InEscape, InHex, type_begun, type_ended, spaced, grown, pair_made, pair_ended, rdn_ended, value_taken, step, ending, run}
-use Rattle.sd_dn.proofs.Complete.{differs, differs_from, trimmed_space, trimmed_solid, take_trimmed}
+use Rattle.sd_dn.specs.Bytes.{is_type_byte, is_reserved, is_special}
+use Rattle.sd_dn.specs.Grammar.{WrittenByte, Plain, Escaped, Hex, written_byte, meant, is_written_byte, is_plain_space, begins_well, trimmed, WrittenPair, spaces, written_pair, is_type, is_written_pair, pair_of, last_pair_of, WrittenRdn, written_pairs, written_rdn, is_written_rdn, rdn_of, WrittenDn, written_rdns, written_dn, is_written_dn, dn_of, begins_with_space, Spells}
+use Rattle.sd_dn.specs.Reading.{Progress, Start, BeforeType, InType, BeforeEquals, InValue, InEscape, InHex, type_begun, type_ended, spaced, grown, pair_made, pair_ended, rdn_ended, value_taken, step, run}
+use Rattle.sd_dn.proofs.Complete.{differs, trimmed_space, trimmed_solid, take_trimmed}
 
 -- ---- what stands behind a place of the text
 
@@ -158,7 +158,7 @@ longer_ok p x h ok begins =
     let a = and_parts (is_type p.name) (list_all is_written_byte p.value && begins_well p.value) h in
     let b = and_parts (list_all is_written_byte p.value) (begins_well p.value) a.1 in
     and_from (is_type p.name) (list_all is_written_byte (p.value ++ x ∷ []) && begins_well (p.value ++ x ∷ [])) a.0
-      (and_from (list_all is_written_byte (p.value ++ x ∷ [])) (begins_well (p.value ++ x ∷ [])) (all_push is_written_byte p.value x b.0 ok) begins)
+    (and_from (list_all is_written_byte (p.value ++ x ∷ [])) (begins_well (p.value ++ x ∷ [])) (all_push is_written_byte p.value x b.0 ok) begins)
 
 grows : (dn : List (List Pair)) (rdn : List Pair) (name value : List ℕ) (solid : ℕ) (prefix : List ℕ) (x : WrittenByte) → (a : Valued dn rdn name value solid prefix) → is_written_byte x ≡ true → is_plain_space x ≡ false → begins_well (a.pair.value ++ x ∷ []) ≡ true
     → Valued dn rdn name (value ++ meant x ∷ []) (length value + 1) (prefix ++ written_byte x)
@@ -295,8 +295,8 @@ ends dn rdn name value solid prefix a =
       valid = and_from (list_all is_written_rdn f.rdns) (is_written_rdn (rdn_made f.pairs a.pair)) f.rdns_ok (and_from (list_all is_written_pair f.pairs) (is_written_pair a.pair) f.pairs_ok a.ok);
       text_is = a.text ∙ (more _ _ (written_pair a.pair) f.text ∙ append_assoc (written_rdns f.rdns) (written_pairs f.pairs) (written_pair a.pair));
       meaning = ap (λ (p : Pair). dn ++ (rdn ++ p ∷ []) ∷ []) (last_made dn rdn name value solid prefix a)
-        ∙ (ap (λ (r : List Pair). dn ++ (r ++ last_pair_of a.pair ∷ []) ∷ []) f.rdn_is
-        ∙ ap (λ (w : List (List Pair)). w ++ (map pair_of f.pairs ++ last_pair_of a.pair ∷ []) ∷ []) f.dn_is);
+          ∙ (ap (λ (r : List Pair). dn ++ (r ++ last_pair_of a.pair ∷ []) ∷ []) f.rdn_is
+          ∙ ap (λ (w : List (List Pair)). w ++ (map pair_of f.pairs ++ last_pair_of a.pair ∷ []) ∷ []) f.dn_is);
     }
 
 -- ---- one step
@@ -354,9 +354,9 @@ value_step dn rdn name value solid b next prefix a e =
     elim (chosen (b == 32) (Some (InValue dn rdn name (spaced value) solid)) (cond (is_reserved b || (ltb (length value) 1 && b == 35)) None (Some (grown dn rdn name value b))) (Some next) e) [
       | inl h ↦ arrives _ next (prefix ++ b ∷ []) (some_is _ _ h.1) (with_byte (InValue dn rdn name (spaced value) solid) prefix b 32 h.0 (space_comes dn rdn name value solid prefix a))
       | inr h ↦ elim (chosen (is_reserved b || (ltb (length value) 1 && b == 35)) None (Some (grown dn rdn name value b)) (Some next) h.1) [
-          | inl g ↦ let none : None ≡ Some next = g.1 in absurd cc
-          | inr g ↦ arrives _ next (prefix ++ b ∷ []) (some_is _ _ g.1) (plain_step dn rdn name value solid b prefix a h.0 g.0)
-        ]
+        | inl g ↦ let none : None ≡ Some next = g.1 in absurd cc
+        | inr g ↦ arrives _ next (prefix ++ b ∷ []) (some_is _ _ g.1) (plain_step dn rdn name value solid b prefix a h.0 g.0)
+      ]
     ]
 
 in_value_step : (dn : List (List Pair)) (rdn : List Pair) (name value : List ℕ) (solid b : ℕ) (next : Progress) (prefix : List ℕ) → Valued dn rdn name value solid prefix → step (InValue dn rdn name value solid) b ≡ Some next → After next (prefix ++ b ∷ [])
@@ -367,14 +367,14 @@ in_value_step dn rdn name value solid b next prefix a e =
       | inl h ↦ arrives _ next (prefix ++ b ∷ []) (some_is _ _ h.1) (with_byte (rdn_ended dn rdn name value solid) prefix b 44 h.0
           (record { front = prefix ++ 44 ∷ []; is_front = comma_comes dn rdn name value solid prefix a; lead = 0; text = sym (append-nil (prefix ++ 44 ∷ [])) }))
       | inr h ↦ elim (chosen (b == 43) on_plus (cond (b == 92) on_backslash (value_taken dn rdn name value solid b)) (Some next) h.1) [
-          | inl g ↦ arrives _ next (prefix ++ b ∷ []) (some_is _ _ g.1) (with_byte (pair_ended dn rdn name value solid) prefix b 43 g.0
-              (record { front = prefix ++ 43 ∷ []; is_front = plus_comes dn rdn name value solid prefix a; lead = 0; text = sym (append-nil (prefix ++ 43 ∷ [])) }))
-          | inr g ↦ elim (chosen (b == 92) on_backslash (value_taken dn rdn name value solid b) (Some next) g.1) [
-              | inl k ↦ arrives _ next (prefix ++ b ∷ []) (some_is _ _ k.1) (with_byte (InEscape dn rdn name value) prefix b 92 k.0
-                  (record { solid = solid; before = prefix; valued = a; text = refl }))
-              | inr k ↦ value_step dn rdn name value solid b next prefix a k.1
-            ]
+        | inl g ↦ arrives _ next (prefix ++ b ∷ []) (some_is _ _ g.1) (with_byte (pair_ended dn rdn name value solid) prefix b 43 g.0
+            (record { front = prefix ++ 43 ∷ []; is_front = plus_comes dn rdn name value solid prefix a; lead = 0; text = sym (append-nil (prefix ++ 43 ∷ [])) }))
+        | inr g ↦ elim (chosen (b == 92) on_backslash (value_taken dn rdn name value solid b) (Some next) g.1) [
+          | inl k ↦ arrives _ next (prefix ++ b ∷ []) (some_is _ _ k.1) (with_byte (InEscape dn rdn name value) prefix b 92 k.0
+              (record { solid = solid; before = prefix; valued = a; text = refl }))
+          | inr k ↦ value_step dn rdn name value solid b next prefix a k.1
         ]
+      ]
     ]
 
 -- a byte behind a backslash belongs to the value
@@ -398,7 +398,7 @@ escape_step dn rdn name value b next prefix a e =
       | inl h ↦ arrives _ next (prefix ++ b ∷ []) (some_is _ _ h.1) (opened_ends dn rdn name value (92 ∷ []) prefix b (Escaped b) a refl h.0 refl refl)
       | inr h ↦ let g = guarded (is_ascii_hexdigit b) (InHex dn rdn name value b) next h.1 in
           arrives _ next (prefix ++ b ∷ []) g.1
-            (record { solid = a.solid; before = a.before; valued = a.valued; text = more _ _ (b ∷ []) a.text ∙ append_assoc a.before (92 ∷ []) (b ∷ []) }, g.0)
+          (record { solid = a.solid; before = a.before; valued = a.valued; text = more _ _ (b ∷ []) a.text ∙ append_assoc a.before (92 ∷ []) (b ∷ []) }, g.0)
     ]
 
 hex_taken : (c : Bool) (x : ℕ) (f : ℕ → Progress) (next : Progress) → option_map_or (λ n. Some (f n)) (cond c (Some x) None) None ≡ Some next → (c ≡ true) × (f x ≡ next)

@@ -1,5 +1,5 @@
 -- When two DNs are equal, and one is under another.
-use Rattle.std.specs.Prelude.{◌≡◌, ℕ, ◌+◌, ◌-◌, Bool, true, false, ◌&&◌, ◌==◌, if◌then◌else◌, List, [], ◌∷◌, length, drop, Option, Some, None, nat_lt, nat_le}
+use Rattle.std.specs.Prelude.{ℕ, ◌-◌, Bool, true, false, ◌&&◌, if◌then◌else◌, List, [], ◌∷◌, length, drop, Option, Some, None, nat_lt, nat_le}
 use Rattle.std.specs.Char.{eq_ignore_ascii_case}
 use Rattle.sd_dn.specs.declared.Pair.{Pair}
 

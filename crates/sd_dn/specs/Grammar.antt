@@ -1,7 +1,7 @@
 -- Which texts spell which DN (RFC 4514, in this project's profile). A spelling says how each thing of
 -- the DN is written; its text and its meaning are functions of it.
-use Rattle.std.specs.Prelude.{◌≡◌, ℕ, ◌+◌, ◌*◌, Bool, true, false, ◌&&◌, ◌||◌, not, ◌==◌, List, [], ◌∷◌, ◌++◌, map, replicate, is_none}
-use Rattle.std.specs.Prelude.{if◌then◌else◌, Option, Some, None, ◌⊎◌, ◌<◌, ◌≤◌, length, take, Result, Ok, Err}
+use Rattle.std.specs.Prelude.{◌≡◌, ℕ, ◌+◌, ◌*◌, Bool, true, false, ◌&&◌, ◌||◌, not, ◌==◌, List, [], ◌∷◌, ◌++◌, map, replicate}
+use Rattle.std.specs.Prelude.{if◌then◌else◌, ◌⊎◌, ◌<◌, ◌≤◌, length, take, Result, Ok, Err}
 use Rattle.std.specs.List.{flat_map, list_all}
 use Rattle.std.specs.Char.{is_ascii_hexdigit, digit_value}
 use Rattle.sd_dn.specs.declared.Pair.{Pair}

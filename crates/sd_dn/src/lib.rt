@@ -1,21 +1,33 @@
 // Distinguished names of a directory (RFC 4514, in a profile of this project's own).
 #![tactic(auto)]
 
-use sd_base::{Items, Memory, Text};
+ghost use Rattle.std.specs.Prelude.{◌≡◌, ℕ, List, IfOk};
+
+use sd_base::{Copied, Items, Memory, Text};
 
 pub mod bytes;
 pub mod compare;
 pub mod read;
+#[cfg(test)]
+mod tests;
 
-pub use compare::Leaf;
+pub use compare::{Leaf, dn_equal, is_at_or_under, is_under, leaf_under};
 pub use read::read_dn;
-
 
 /// An attribute's type and its value, of which nothing is escaped.
 #[derive(Drop, Debug)]
 pub struct Pair {
     pub name: Text,
     pub value: Text,
+}
+
+impl Copied for Pair {
+    fn copy(&self) -> Result<Pair, Memory> {
+        Ok(Pair {
+            name: self.name.copy()?,
+            value: self.value.copy()?,
+        })
+    }
 }
 
 /// The pairs of one relative distinguished name, as they were written.

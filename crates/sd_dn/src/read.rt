@@ -268,6 +268,11 @@ pub fn read_dn(alloc: Global, text: &[u8]) -> Result<Dn, DnFault>
     read_text(alloc, text)
 }
 
+/// A text spells one DN at most.
+pub fn one_dn()
+    ensures { (text : List ℕ) (a b : List (List Pair)) → Spells text a → Spells text b → a ≡ b }
+{}
+
 /// Reads a text from its first byte to its end.
 fn read_text(alloc: Global, text: &[u8]) -> Result<Dn, DnFault>
     ensures { reading.Gives (length text.now) result (reading.run (reading.Start [] []) text.now) }
