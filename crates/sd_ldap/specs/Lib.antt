@@ -1,0 +1,9 @@
+pub mod Filters
+pub mod Values
+pub mod Monad
+pub mod Parts
+pub mod FilterReading
+pub mod MessageReading
+pub mod Decoding
+pub mod Spelling
+pub mod Sound
