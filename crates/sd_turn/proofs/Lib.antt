@@ -1,0 +1,9 @@
+pub mod Lists
+pub mod Families
+pub mod Keeping
+pub mod Taking
+pub mod Counting
+pub mod Giving
+pub mod Splitting
+pub mod Joining
+pub mod Closing
