@@ -1,0 +1,6 @@
+use Rattle.std.proofs.Common.{◌≡◌}
+use Rattle.sd_turn.specs.Seats.{IsOwn, HoldsNoTurn, IsSameSeat}
+use Rattle.sd_turn.proofs.tests.keep_and_append.Given as goal
+
+abbrev pub invariant-loop : goal.invariant-loop
+invariant-loop g l = IsOwn l.turn l.seat × HoldsNoTurn l.seat × IsSameSeat l.fn.seat l.seat
