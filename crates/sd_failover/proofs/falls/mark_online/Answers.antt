@@ -1,0 +1,8 @@
+use Rattle.std.proofs.Common.{arith}
+use Rattle.sd_failover.specs.Falls as told
+use Rattle.sd_failover.proofs.Written.{map_written}
+use Rattle.sd_failover.proofs.falls.mark_online.Goals as goal
+
+pub loop-fall-preserved : goal.loop-fall-preserved
+loop-fall-preserved c =
+    map_written told.with_online c.args.falls.now c.loop-fall.falls c.loop-fall.fall-index _ c.with_online.result (omega arith) (omega arith) c.loop-fall.invariant c.with_online.ensures

@@ -1,0 +1,7 @@
+use Rattle.std.proofs.Common.{◌≡◌, ◌++◌, take, drop, map}
+use Rattle.sd_failover.specs.Falls as told
+use Rattle.sd_failover.proofs.falls.release.Given as goal
+
+-- the falls so far are changed, and the others stand as they were
+abbrev pub invariant-loop-fall : goal.invariant-loop-fall
+invariant-loop-fall l = l.falls ≡ map (told.released l.request) (take l.fall-index l.initial.falls) ++ drop l.fall-index l.initial.falls
