@@ -7,3 +7,8 @@ pub mod Logins
 pub mod Access
 pub mod TextBytes
 pub mod Steps
+pub mod Lookups
+pub mod Closings
+pub mod LoginScript
+pub mod AccessScript
+pub mod Scripts

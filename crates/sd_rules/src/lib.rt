@@ -5,6 +5,7 @@ pub mod events;
 pub mod keys;
 pub mod records;
 pub mod replies;
+pub mod scripts;
 pub mod settings;
 pub mod tasks;
 
@@ -15,5 +16,6 @@ pub use records::{
     Service, ServiceList, User,
 };
 pub use replies::{By, Entry, Given, Journal, NotBy, Outcome, Refused, Reply, StepFault, Verdict};
+pub use scripts::{Led, LedList, LoginStage, LoginStep, LookupCourse, LookupStage, LookupStep};
 pub use settings::{AccessMode, Settings, SimpleLists};
-pub use tasks::{Bound, Fetched, Need, Said, Who};
+pub use tasks::{Bound, Fetched, Need, Said, Task, Who};

@@ -1,7 +1,11 @@
 // What a client's request needs next, and what it is told.
+ghost use Rattle.std.specs.Prelude.{◌≡◌, true, false, IfOk, OnOk, OnErr};
+ghost use Rattle.sd_rules.specs.Scripts.{Script, need_at, told_at, replied_at, fetched_at, bound_at, key_at, awaits_reply, awaits_fetch, awaits_bind, fits_found, fits_fetched, is_out_of_memory, is_bind_out_of_memory, is_need_of_kind, is_tellable};
+
 use crate::events::Event;
 use crate::keys::Key;
 use crate::records::Record;
+use crate::replies::Given;
 use sd_base::{Copied, Memory, Text, Texts, Why};
 
 /// Whom and what an account check is about.
@@ -93,4 +97,39 @@ impl Copied for Fetched {
             Fetched::Memory => Fetched::Memory,
         })
     }
+}
+
+/// A client's request, which says what it needs next and is told what came of it. It follows the script of its kind.
+pub trait Task {
+    /// The script, as far as it has come.
+    ghost script: { Self → Script };
+
+    /// What is needed next. What is to be told to the client is handed over once; any other need stays until what came of it
+    /// was told.
+    fn need(&mut self) -> Result<Need, Memory>
+        ensures need { IfOk result (λ need. need ≡ need_at (script self.old)) }
+        ensures told { OnOk result (script self.new ≡ told_at (script self.old)) }
+        ensures kind { IfOk result (λ need. is_need_of_kind (key_at (script self.old)) need ≡ true) }
+        ensures tellable { IfOk result (λ need. is_tellable need ≡ true) }
+        ensures unchanged { OnErr result (script self.new ≡ script self.old) };
+
+    /// The reply to the event that was needed, or to the collecting of the ticket that was awaited.
+    fn replied(&mut self, given: Given) -> Result<(), Memory>
+        requires awaited { awaits_reply (need_at (script self.old)) ≡ true }
+        requires kind { fits_found (key_at (script self.old)) given.found ≡ true }
+        ensures replied { OnOk result (script self.new ≡ replied_at (script self.old) given) }
+        ensures unchanged { OnErr result (script self.new ≡ script self.old) };
+
+    /// What the search at a server that was needed gave.
+    fn fetched(&mut self, found: Fetched)
+        requires awaited { awaits_fetch (need_at (script self.old)) ≡ true }
+        requires kind { fits_fetched (key_at (script self.old)) found ≡ true }
+        requires told { is_out_of_memory found ≡ false }
+        ensures { script self.new ≡ fetched_at (script self.old) found };
+
+    /// What the bind at a server that was needed gave.
+    fn bound(&mut self, bound: Bound)
+        requires awaited { awaits_bind (need_at (script self.old)) ≡ true }
+        requires told { is_bind_out_of_memory bound ≡ false }
+        ensures { script self.new ≡ bound_at (script self.old) bound };
 }
