@@ -1,0 +1,2 @@
+pub mod LookupKinds
+pub mod ReachingLaws

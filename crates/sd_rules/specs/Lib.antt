@@ -12,3 +12,7 @@ pub mod Closings
 pub mod LoginScript
 pub mod AccessScript
 pub mod Scripts
+pub mod Legal
+pub mod Needed
+pub mod Reaching
+pub mod KeptRows

@@ -138,6 +138,9 @@ lookup_fetched stage fetched = stage
 
 -- The lookup of a key for a client. Where the answer is fresh and past its midpoint, the client is told first, and the key is
 -- looked up anew after that.
+abbrev pub begun : LookupCourse
+begun = Looking Ask
+
 abbrev pub course_need : Key → LookupCourse → Need
 course_need key (Looking stage) = lookup_need key stage
 course_need key (Saying said) = Say said

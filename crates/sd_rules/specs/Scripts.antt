@@ -17,7 +17,7 @@ use Rattle.sd_rules.specs.declared.tasks.Need.{Need}
 use Rattle.sd_rules.specs.declared.tasks.Need.TheVariants as needs
 use Rattle.sd_rules.specs.declared.tasks.Said.TheVariants as says
 use Rattle.sd_rules.specs.Keys.{is_answer_of_kind}
-use Rattle.sd_rules.specs.Lookups.{course_need, course_told, course_replied, course_fetched, course_key, is_found_of_kind, is_fetched_of_kind, is_sayable}
+use Rattle.sd_rules.specs.Lookups.{begun, course_need, course_told, course_replied, course_fetched, course_key, is_found_of_kind, is_fetched_of_kind, is_sayable}
 use Rattle.sd_rules.specs.Closings.{Saying}
 use Rattle.sd_rules.specs.LoginScript.{LoginWords, LoginCourse, login_course_need, login_course_told, login_course_replied, login_course_fetched, login_course_bound, login_begun, login_key}
 use Rattle.sd_rules.specs.AccessScript.{AccessWords, AccessCourse, access_need, access_told, access_replied, access_fetched, access_begun, access_key}
@@ -50,7 +50,7 @@ pub data Script : Type 0 where
 
 -- each script from its first need on
 abbrev pub lookup_script : Key → Script
-lookup_script key = Lookup key (Looking stages.Ask)
+lookup_script key = Lookup key begun
 
 abbrev pub login_script : LoginWords → Script
 login_script words = Login words (login_begun words.password)
