@@ -1,0 +1,5 @@
+pub mod Pieces
+pub mod Forms
+pub mod Names
+pub mod Output
+pub mod Statuses

@@ -1,0 +1,52 @@
+-- How a scenario ends: its status and what it writes, where no fault and no want of memory comes between.
+use Rattle.std.specs.Prelude.{ℕ, Bool, true, false, ◌++◌, nat_lt, length, codes, ◌≤◌, ◌≢◌, List, [], ◌∷◌, Option, Some, None, if◌then◌else◌}
+use Rattle.std.specs.Fmt.{decimal}
+use Rattle.sd_rules.specs.Keys.{same_name}
+use Rattle.sd_scenario.specs.declared.endings.Ending.{Ending}
+use Rattle.sd_scenario.specs.declared.endings.TheConstants.{DONE, USAGE, BAD_LINE, JOURNAL_FULL, TOO_LONG, LIMIT}
+use Rattle.sd_scenario.specs.Lines.{first_bad}
+use Rattle.sd_scenario.specs.Transcript.{Transcript, transcript}
+
+-- the one list of words that has a form
+abbrev pub is_scenario : List (List ℕ) → Bool
+is_scenario (w ∷ []) = same_name w (codes "scenario")
+is_scenario _ = false
+
+abbrev pub usage : List ℕ
+usage = codes "usage\n"
+
+abbrev pub too_long : List ℕ
+too_long = codes "too long\n"
+
+abbrev pub bad_line : ℕ → List ℕ
+bad_line n = codes "bad line " ++ (decimal n ++ codes "\n")
+
+-- the end of a scenario whose lines all have forms
+abbrev pub status_by_journal : Bool → ℕ
+status_by_journal true = JOURNAL_FULL
+status_by_journal false = DONE
+
+abbrev pub ending_by_journal : Bool → List ℕ → Ending
+ending_by_journal is_full text = record { status = status_by_journal is_full; output = text }
+
+-- the end at the first line without a form, or by the transcript
+abbrev pub ending_by_bad : Option ℕ → Transcript → Ending
+ending_by_bad (Some n) t = record { status = BAD_LINE; output = bad_line n }
+ending_by_bad None t = ending_by_journal t.is_full t.text
+
+abbrev pub ending_by_lines : List ℕ → Ending
+ending_by_lines text = ending_by_bad (first_bad text) (transcript text)
+
+-- the end of a scenario of this text, by its length and its lines
+abbrev pub ending_of : List ℕ → Ending
+ending_of text =
+    if nat_lt LIMIT (length text) then record { status = TOO_LONG; output = too_long } else ending_by_lines text
+
+-- the end by the words and the text of the input
+abbrev pub ending_by_words : Bool → List ℕ → Ending
+ending_by_words false text = record { status = USAGE; output = usage }
+ending_by_words true text = ending_of text
+
+-- the statuses that a scenario has: 0 and 2 to 8
+abbrev pub IsStatus : ℕ → Type 0
+IsStatus status = (status ≤ TOO_LONG) × (status ≢ 1)
