@@ -3,3 +3,4 @@ pub mod Forms
 pub mod Names
 pub mod Output
 pub mod Statuses
+pub mod Fitting

@@ -1,11 +1,10 @@
 -- The directory of a scenario: a list of users, in the order in which they were put.
 use Rattle.std.specs.Prelude.{ℕ, ◌+◌, ◌++◌, nat_lt, slice_set, length, codes, List, [], ◌∷◌, if◌then◌else◌}
-use Rattle.std.specs.Str.{str_eq_ignore_ascii_case}
-use Rattle.sd_rules.specs.declared.User.{User}
-use Rattle.sd_rules.specs.declared.Record.TheVariants as records
-use Rattle.sd_rules.specs.declared.Answered.{Answered}
-use Rattle.sd_rules.specs.declared.Answered.TheVariants.{Found, Absent}
-use Rattle.sd_rules.specs.Keys.{same_name}
+use Rattle.sd_rules.specs.declared.records.User.{User}
+use Rattle.sd_rules.specs.declared.records.Record.TheVariants as records
+use Rattle.sd_rules.specs.declared.records.Answered.{Answered}
+use Rattle.sd_rules.specs.declared.records.Answered.TheVariants.{Found, Absent}
+use Rattle.sd_rules.specs.Keys.{same_letters, same_name}
 
 -- the entry of a user: posixAccount of RFC 2307, under the place of users of FreeIPA
 abbrev pub user_made : List ℕ → ℕ → ℕ → User
@@ -23,7 +22,7 @@ user_made name uid gid = record {
 -- Values in such names compare without ASCII case.
 abbrev pub place_of : List User → List ℕ → ℕ
 place_of [] name = 0
-place_of (u ∷ users) name = if str_eq_ignore_ascii_case u.name name then 0 else place_of users name + 1
+place_of (u ∷ users) name = if same_letters u.name name then 0 else place_of users name + 1
 
 -- the users with one in this place, or last where the place is past them
 abbrev pub put_at : List User → ℕ → User → List User

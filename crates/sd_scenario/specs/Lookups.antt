@@ -1,20 +1,32 @@
 -- The script of a lookup: which events it makes, and what it answers.
-use Rattle.std.specs.Prelude.{ℕ, List, Option, Some, None, Result, Ok, Err, if◌then◌else◌}
-use Rattle.sd_rules.specs.declared.User.{User}
-use Rattle.sd_rules.specs.declared.Record.{Record}
-use Rattle.sd_rules.specs.declared.Answered.{Answered}
-use Rattle.sd_rules.specs.declared.Answered.TheVariants.{Found, Absent}
-use Rattle.sd_rules.specs.declared.Key.TheVariants as keys
-use Rattle.sd_rules.specs.declared.Event.{Event}
-use Rattle.sd_rules.specs.declared.Event.TheVariants.{Ask, Pick, Answer}
-use Rattle.sd_rules.specs.declared.Reply.{Reply}
-use Rattle.sd_rules.specs.declared.Reply.TheVariants as replies
-use Rattle.sd_rules.specs.declared.Given.{Given}
-use Rattle.sd_rules.specs.declared.Said.{Said}
-use Rattle.sd_rules.specs.declared.Said.TheVariants as saids
+use Rattle.std.specs.Prelude.{ℕ, Bool, true, ◌&&◌, List, [], ◌∷◌, Option, Some, None, Result, Ok, Err, if◌then◌else◌}
+use Rattle.sd_rules.specs.declared.records.User.{User}
+use Rattle.sd_rules.specs.declared.records.Record.{Record}
+use Rattle.sd_rules.specs.declared.records.Answered.{Answered}
+use Rattle.sd_rules.specs.declared.records.Answered.TheVariants.{Found, Absent}
+use Rattle.sd_rules.specs.declared.keys.Key.TheVariants as keys
+use Rattle.sd_rules.specs.declared.events.Event.{Event}
+use Rattle.sd_rules.specs.declared.events.Event.TheVariants.{Ask, Pick, Answer}
+use Rattle.sd_rules.specs.declared.replies.Reply.{Reply}
+use Rattle.sd_rules.specs.declared.replies.Reply.TheVariants as replies
+use Rattle.sd_rules.specs.declared.replies.Entry.{Entry}
+use Rattle.sd_rules.specs.declared.replies.Given.{Given}
+use Rattle.sd_rules.specs.declared.tasks.Said.{Said}
+use Rattle.sd_rules.specs.declared.tasks.Said.TheVariants as saids
+use Rattle.sd_rules.specs.Keys.{is_user_key}
 use Rattle.sd_rules.specs.Steps.{Daemon, after, given, is_full, full_count}
 use Rattle.sd_scenario.specs.declared.lookups.Looked.{Looked}
 use Rattle.sd_scenario.specs.Directory.{looked_up}
+
+-- the event asks for nothing but a user
+abbrev pub is_for_users : Event → Bool
+is_for_users (Ask key) = is_user_key key
+is_for_users _ = true
+
+-- every request of this past was asked for a user
+abbrev pub asks_users : List Entry → Bool
+asks_users [] = true
+asks_users (e ∷ past) = is_for_users e.event && asks_users past
 
 -- a step that is refused as full ends what is done
 infixl 10 ◌>>=◌

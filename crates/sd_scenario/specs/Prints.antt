@@ -1,11 +1,11 @@
 -- The texts of answers.
 use Rattle.std.specs.Prelude.{ℕ, Bool, ◌||◌, ◌==◌, ◌+◌, ◌/◌, ◌%◌, ◌++◌, nat_lt, codes, List, [], ◌∷◌, Option, Some, None, if◌then◌else◌}
 use Rattle.std.specs.Fmt.{decimal}
-use Rattle.sd_rules.specs.declared.User.{User}
-use Rattle.sd_rules.specs.declared.Record.{Record}
-use Rattle.sd_rules.specs.declared.Record.TheVariants as records
-use Rattle.sd_rules.specs.declared.Said.{Said}
-use Rattle.sd_rules.specs.declared.Said.TheVariants as saids
+use Rattle.sd_rules.specs.declared.records.User.{User}
+use Rattle.sd_rules.specs.declared.records.Record.{Record}
+use Rattle.sd_rules.specs.declared.records.Record.TheVariants as records
+use Rattle.sd_rules.specs.declared.tasks.Said.{Said}
+use Rattle.sd_rules.specs.declared.tasks.Said.TheVariants as saids
 
 -- a byte that would end a field or break a line: a control byte, DEL, a colon or a backslash
 abbrev pub is_escaped : ℕ → Bool

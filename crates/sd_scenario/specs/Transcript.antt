@@ -1,7 +1,7 @@
 -- What a scenario prints.
 use Rattle.std.specs.Prelude.{ℕ, Bool, true, false, ◌+◌, ◌++◌, codes, List, [], ◌∷◌, Option, Some, None, Result, Ok, Err}
-use Rattle.sd_rules.specs.declared.Settings.{Settings}
-use Rattle.sd_rules.specs.declared.AccessMode.TheVariants.{Permit}
+use Rattle.sd_rules.specs.declared.settings.Settings.{Settings}
+use Rattle.sd_rules.specs.declared.settings.AccessMode.TheVariants.{Permit}
 use Rattle.sd_rules.specs.Steps.{Daemon}
 use Rattle.sd_scenario.specs.declared.lines.Line.{Line}
 use Rattle.sd_scenario.specs.declared.lines.Line.TheVariants as lines

@@ -1,7 +1,7 @@
 // The directory of a scenario: a list of users.
 ghost use Rattle.std.specs.Prelude.{◌≡◌, ℕ, List, ◌+◌, ◌++◌, ◌<◌, length, IfOk, OnOk, OnErr, codes};
-ghost use Rattle.std.specs.Str.{str_eq_ignore_ascii_case};
-ghost use Rattle.sd_rules.specs.declared.User.{User};
+ghost use Rattle.sd_rules.specs.Keys.{same_letters};
+ghost use Rattle.sd_rules.specs.declared.records.User.{User};
 ghost use Rattle.sd_scenario.specs.Directory as directory;
 
 use crate::prints::push_bytes;
@@ -42,7 +42,7 @@ pub fn user_made(alloc: Global, name: &Text, uid: u32, gid: u32) -> Result<User,
 /// Whether the names are values of one distinguished name.
 #[tactic(auto, using(crate::proofs::Names::tested))]
 fn is_same_value(a: &Text, b: &Text) -> bool
-    ensures { result ≡ str_eq_ignore_ascii_case a.now b.now }
+    ensures { result ≡ same_letters a.now b.now }
 {
     a.bytes().eq_ignore_ascii_case(b.bytes())
 }

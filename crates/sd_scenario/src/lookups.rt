@@ -1,5 +1,6 @@
 // A lookup, step by step.
-ghost use Rattle.std.specs.Prelude.{◌≡◌, MatchResult, Ok};
+ghost use Rattle.std.specs.Prelude.{◌≡◌, MatchResult, OnOk, Ok, true};
+ghost use Rattle.sd_rules.specs.Steps.{is_steppable};
 ghost use Rattle.sd_scenario.specs.Directory as directory;
 ghost use Rattle.sd_scenario.specs.Lookups as script;
 ghost use Rattle.sd_scenario.specs.Stops.{Fails};
@@ -21,7 +22,11 @@ pub struct Looked {
 
 /// One step of the core.
 fn step(core: &mut Core, now: u64, event: Event) -> Result<Given, Stop>
-    ensures { MatchResult result (λ given. script.step core.old now event ≡ Ok (core.new, given)) (λ stop. Fails stop (script.step core.old now event)) }
+    requires can { is_steppable core.old.past event ≡ true }
+    requires users { script.asks_users core.old.past ≡ true }
+    requires event { script.is_for_users event ≡ true }
+    ensures users { OnOk result (script.asks_users core.new.past ≡ true) }
+    ensures done { MatchResult result (λ given. script.step core.old now event ≡ Ok (core.new, given)) (λ stop. Fails stop (script.step core.old now event)) }
 {
     match core.step(now, event) {
         Ok(given) => Ok(given),
@@ -99,13 +104,17 @@ fn answer_request(
     request: u64,
     answered: Answered,
 ) -> Result<Option<Said>, Stop>
-    ensures { MatchResult result (λ said. script.answer_request core.old now request answered ≡ Ok (core.new, said)) (λ stop. Fails stop (script.answer_request core.old now request answered)) }
+    requires users { script.asks_users core.old.past ≡ true }
+    requires kind { is_steppable core.old.past (Event.Answer request answered) ≡ true }
+    ensures users { OnOk result (script.asks_users core.new.past ≡ true) }
+    ensures done { MatchResult result (λ said. script.answer_request core.old now request answered ≡ Ok (core.new, said)) (λ stop. Fails stop (script.answer_request core.old now request answered)) }
 {
     let kept = answered.copy()?;
     let given = step(core, now, Event::Answer(request, kept))?;
     Ok(answer_by_close(&given, answered))
 }
 
+#[tactic(auto, using(crate::proofs::Fitting::answer_is_steppable))]
 fn asked_at_server(
     users: &[User],
     core: &mut Core,
@@ -114,7 +123,9 @@ fn asked_at_server(
     request: u64,
     reply: Reply,
 ) -> Result<Option<Said>, Stop>
-    ensures { MatchResult result (λ said. script.asked_at_server core.old now request (directory.looked_up users.now name.now) reply ≡ Ok (core.new, said)) (λ stop. Fails stop (script.asked_at_server core.old now request (directory.looked_up users.now name.now) reply)) }
+    requires users { script.asks_users core.old.past ≡ true }
+    ensures users { OnOk result (script.asks_users core.new.past ≡ true) }
+    ensures done { MatchResult result (λ said. script.asked_at_server core.old now request (directory.looked_up users.now name.now) reply ≡ Ok (core.new, said)) (λ stop. Fails stop (script.asked_at_server core.old now request (directory.looked_up users.now name.now) reply)) }
 {
     match reply {
         Reply::Server(_) => answer_request(core, now, request, looked_up(users, name)?),
@@ -130,7 +141,9 @@ pub fn fetch(
     name: &Text,
     request: u64,
 ) -> Result<Option<Said>, Stop>
-    ensures { MatchResult result (λ said. script.fetch users.now core.old now name.now request ≡ Ok (core.new, said)) (λ stop. Fails stop (script.fetch users.now core.old now name.now request)) }
+    requires users { script.asks_users core.old.past ≡ true }
+    ensures users { OnOk result (script.asks_users core.new.past ≡ true) }
+    ensures done { MatchResult result (λ said. script.fetch users.now core.old now name.now request ≡ Ok (core.new, said)) (λ stop. Fails stop (script.fetch users.now core.old now name.now request)) }
 {
     let given = step(core, now, Event::Pick(request))?;
     asked_at_server(users, core, now, name, request, given.reply)
@@ -143,7 +156,9 @@ fn go_on(
     name: &Text,
     given: Given,
 ) -> Result<Looked, Stop>
-    ensures { MatchResult result (λ looked. script.go_on users.now core.old now name.now given given.reply ≡ Ok (core.new, looked)) (λ stop. Fails stop (script.go_on users.now core.old now name.now given given.reply)) }
+    requires users { script.asks_users core.old.past ≡ true }
+    ensures users { OnOk result (script.asks_users core.new.past ≡ true) }
+    ensures done { MatchResult result (λ looked. script.go_on users.now core.old now name.now given given.reply ≡ Ok (core.new, looked)) (λ stop. Fails stop (script.go_on users.now core.old now name.now given given.reply)) }
 {
     match given.reply {
         Reply::Lead(request) => {
@@ -159,7 +174,9 @@ fn go_on(
 
 /// A lookup of a user by name, up to its answer.
 pub fn lookup(users: &[User], core: &mut Core, now: u64, name: &Text) -> Result<Looked, Stop>
-    ensures { MatchResult result (λ looked. script.lookup users.now core.old now name.now ≡ Ok (core.new, looked)) (λ stop. Fails stop (script.lookup users.now core.old now name.now)) }
+    requires users { script.asks_users core.old.past ≡ true }
+    ensures users { OnOk result (script.asks_users core.new.past ≡ true) }
+    ensures done { MatchResult result (λ looked. script.lookup users.now core.old now name.now ≡ Ok (core.new, looked)) (λ stop. Fails stop (script.lookup users.now core.old now name.now)) }
 {
     let key = Key::User(name.copy()?);
     let given = step(core, now, Event::Ask(key))?;

@@ -1,6 +1,7 @@
 // A scenario's lines, carried out one after the other.
-ghost use Rattle.std.specs.Prelude.{◌≡◌, ◌<◌, ◌≤◌, ◌^◌, ◌+◌, ◌++◌, ◌∷◌, [], length, MatchResult, IfOk, OnOk, Ok, codes, not};
+ghost use Rattle.std.specs.Prelude.{◌≡◌, ◌<◌, ◌≤◌, ◌^◌, ◌+◌, ◌++◌, ◌∷◌, [], length, MatchResult, IfOk, OnOk, Ok, codes, not, true};
 ghost use Rattle.std.specs.Option.{option_copied};
+ghost use Rattle.sd_scenario.specs.Lookups.{asks_users};
 ghost use Rattle.sd_scenario.specs.Stops.{Fails, FailsAfter};
 ghost use Rattle.sd_scenario.specs.Transcript as script;
 ghost use Rattle.sd_scenario.specs.Words as words;
@@ -71,6 +72,8 @@ fn start(alloc: Global) -> Result<World, Memory>
 
 /// Carries out a request that renews an answer, where there is one.
 fn renew(world: &mut World, name: &Text, request: Option<u64>) -> Result<(), Stop>
+    requires users { asks_users world.old.core.past ≡ true }
+    ensures users { OnOk result (asks_users world.new.core.past ≡ true) }
     ensures tasks { OnOk result (world.new.tasks ≡ world.old.tasks) }
     ensures done { MatchResult result (λ _. script.renewed world.old name.now request ≡ Ok world.new) (λ stop. Fails stop (script.renewed world.old name.now request)) }
 {
@@ -91,7 +94,9 @@ fn show(
     name: &Text,
     looked: &Looked,
 ) -> Result<(), Stop>
-    requires { world.old.tasks + 1 < 2 ^ 64 }
+    requires room { world.old.tasks + 1 < 2 ^ 64 }
+    requires users { asks_users world.old.core.past ≡ true }
+    ensures users { OnOk result (asks_users world.new.core.past ≡ true) }
     ensures tasks { OnOk result (world.new.tasks ≡ world.old.tasks + 1) }
     ensures done { let shown = script.shown world.old name.now looked.now in MatchResult result
         (λ _. (shown.0 ≡ Ok world.new) × (out.new.items ≡ out.old.items ++ shown.1))
@@ -108,7 +113,9 @@ fn get_user(
     out: &mut Vec<u8>,
     name: &Text,
 ) -> Result<(), Stop>
-    requires { world.old.tasks + 1 < 2 ^ 64 }
+    requires room { world.old.tasks + 1 < 2 ^ 64 }
+    requires users { asks_users world.old.core.past ≡ true }
+    ensures users { OnOk result (asks_users world.new.core.past ≡ true) }
     ensures tasks { OnOk result (world.new.tasks ≡ world.old.tasks + 1) }
     ensures done { let done = script.user_got world.old name.now in MatchResult result
         (λ _. (done.0 ≡ Ok world.new) × (out.new.items ≡ out.old.items ++ done.1))
@@ -133,7 +140,9 @@ fn put_user(
 
 /// Does what a line says, and prints its answer.
 fn do_line(alloc: Global, world: &mut World, out: &mut Vec<u8>, line: &Line) -> Result<(), Stop>
-    requires { world.old.tasks + 1 < 2 ^ 64 }
+    requires room { world.old.tasks + 1 < 2 ^ 64 }
+    requires users { asks_users world.old.core.past ≡ true }
+    ensures users { OnOk result (asks_users world.new.core.past ≡ true) }
     ensures tasks { OnOk result (world.new.tasks ≤ world.old.tasks + 1) }
     ensures done { let done = script.line_done world.old line.now in MatchResult result
         (λ _. (done.0 ≡ Ok world.new) × (out.new.items ≡ out.old.items ++ done.1))
@@ -160,7 +169,8 @@ fn do_lines(
     out: &mut Vec<u8>,
     text: &[u8],
 ) -> Result<bool, Memory>
-    requires { world.old.tasks + length text.now + 1 < 2 ^ 64 }
+    requires users { asks_users world.old.core.past ≡ true }
+    requires room { world.old.tasks + length text.now + 1 < 2 ^ 64 }
     ensures { IfOk result (λ whole. let transcript = script.transcript_on world.old (words.lines_of text.now) in
         (out.new.items ≡ out.old.items ++ transcript.text) × (transcript.is_full ≡ not whole)) }
 {

@@ -12,6 +12,7 @@ loop-left-preserved-in-Ok-2 c =
     let goes_on = line_goes_on c.loop-left.world c.do_line.new.world c.cut.result.0.now c.loop-left.out.items (words.pieces_in 10 (option_copied c.cut.result.1)) in
     record {
       told = grind (arith, goes_on, done.0, done.1, c.cut.ensures.pieces, c.loop-left.invariant.told, c.in_ok-line.ensures);
+      users = c.in-Ok.ensures.users;
       room = grind (arith, common_steps, c.cut.ensures.shorter, c.in-Ok.ensures.tasks);
     }
 
