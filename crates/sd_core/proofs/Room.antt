@@ -33,7 +33,7 @@ abbrev stands : ℕ → List Entry → Bool
 stands n [] = false
 stands n (e ∷ past) = (e.number == n) || stands n past
 
-falls_on : (n : ℕ) (e : Entry) (past : List Entry) → falls_from n (e ∷ past) ≡ true → falls_from n past ≡ true
+pub falls_on : (n : ℕ) (e : Entry) (past : List Entry) → falls_from n (e ∷ past) ≡ true → falls_from n past ≡ true
 falls_on n e past h = falls_from_above e.number n past (grind (arith, nat_tests, h)) (grind (arith, nat_tests, h))
 
 head_is_other : (n : ℕ) (e : Entry) (past : List Entry) → falls_from n (e ∷ past) ≡ true → (n == e.number) ≡ false
