@@ -31,15 +31,15 @@ kind_only (records.Groups groups) own k e h = subst (λ n. (n == 4) ≡ true) e 
 kind_only (records.Host host) own k e h = subst (λ n. (n == 5) ≡ true) e h
 kind_only (records.Rules book) own k e h = subst (λ n. (n == 6) ≡ true) e h
 
-first_holds : (a b : Bool) → (a && b) ≡ true → a ≡ true
+pub first_holds : (a b : Bool) → (a && b) ≡ true → a ≡ true
 first_holds true b h = refl
 first_holds false b h = h
 
-second_holds : (a b : Bool) → (a && b) ≡ true → b ≡ true
+pub second_holds : (a b : Bool) → (a && b) ≡ true → b ≡ true
 second_holds true b h = h
 second_holds false b h = absurd (false_is_not_true h)
 
-one_holds : (a b : Bool) → (a || b) ≡ true → (a ≡ true) ⊎ (b ≡ true)
+pub one_holds : (a b : Bool) → (a || b) ≡ true → (a ≡ true) ⊎ (b ≡ true)
 one_holds true b h = inl refl
 one_holds false b h = inr h
 
@@ -114,7 +114,7 @@ step_kind s past number moment (events.Answer r answered) h =
 step_kind s past number moment (events.Kept row) h = absurd (false_is_not_true h)
 step_kind s past number moment _ h = refl
 
-both_hold : (a b : Bool) → a ≡ true → b ≡ true → (a && b) ≡ true
+pub both_hold : (a b : Bool) → a ≡ true → b ≡ true → (a && b) ≡ true
 both_hold a b f g = cc
 
 pub kinds_after : (d : Daemon) (now : ℕ) (event : Event) → is_steppable d.past event ≡ true → holds_kinds d.past ≡ true →
@@ -124,7 +124,7 @@ kinds_after d now event h kinds =
     (step_kind d.settings d.past (next_number d) (moment_of d now) event h) kinds
 
 -- the newest answer of a key is found under its number
-abbrev Stood : List Entry → Option Standing → Type 0
+abbrev pub Stood : List Entry → Option Standing → Type 0
 Stood past None = Unit {0}
 Stood past (Some a) = record_in (event_at past a.number) ≡ record_in_answer a.answered
 

@@ -2,3 +2,4 @@ pub mod Bounds
 pub mod Numbered
 pub mod Sound
 pub mod Looks
+pub mod Laws
