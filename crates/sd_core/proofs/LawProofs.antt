@@ -23,7 +23,7 @@ use Rattle.sd_core.proofs.Room.{false_is_not_true}
 use Rattle.sd_core.proofs.KindLaws.{first_holds, second_holds}
 
 -- a law of replies holds of a choice where it holds of both, each under its condition
-pick_law : (L : Reply → Type 0) (b : Bool) (f g : Reply) → (b ≡ true → L f) → (b ≡ false → L g) → L (if b then f else g)
+pub pick_law : (L : Reply → Type 0) (b : Bool) (f g : Reply) → (b ≡ true → L f) → (b ≡ false → L g) → L (if b then f else g)
 pick_law L true f g h k = h refl
 pick_law L false f g h k = k refl
 
