@@ -196,3 +196,64 @@ none_open all [] k r h f own = let e : ⊥ = cc in e
 none_open all (e ∷ past) k r h f own =
     let none = none_left (asks_for e.event k && is_open_request all e.number) e.number (open_among all past k) h in
     none_open_at all past e k r (e.number == r) refl none.0 own f (none_open all past k r none.1 f)
+
+-- what is open after an entry, but for its own request, was open before it
+request_before_by : (c b : Bool) (x : Entry) (y : Option Entry) → b ≡ false → has_opened_request (cond c None (cond b (Some x) y)) ≡ true → has_opened_request y ≡ true
+request_before_by true b x y f h = absurd (false_is_not_true h)
+request_before_by false true x y f h = absurd (false_is_not_true (sym f))
+request_before_by false false x y f h = h
+
+request_before : (e : Entry) (past : List Entry) (n : ℕ) → (e.number == n) ≡ false → is_open_request (e ∷ past) n ≡ true → is_open_request past n ≡ true
+request_before e past n other h = request_before_by (closes e.event e.reply n) (e.number == n) e (unclosed past n) other h
+
+key_before : (e : Entry) (past : List Entry) (n : ℕ) (k : Key) → (e.number == n) ≡ false → key_of (e ∷ past) n ≡ Some k → key_of past n ≡ Some k
+key_before e past n k other h = passed (e.number == n) (key_asked e.event) (key_of past n) other h
+  where
+    passed : (b : Bool) (x y : Option Key) → b ≡ false → (if b then x else y) ≡ Some k → y ≡ Some k
+    passed true x y f g = absurd (false_is_not_true (sym f))
+    passed false x y f g = g
+
+-- what is open under an entry's own number was opened by it
+own_opened_by : (c b : Bool) (x : Entry) (y : Option Entry) → b ≡ true → has_opened_request (cond c None (cond b (Some x) y)) ≡ true → opens_request x.event x.reply ≡ true
+own_opened_by true b x y f h = absurd (false_is_not_true h)
+own_opened_by false true x y f h = h
+own_opened_by false false x y f h = absurd (false_is_not_true f)
+
+own_key_by : (b : Bool) (x y : Option Key) (k : Key) → b ≡ true → (if b then x else y) ≡ Some k → x ≡ Some k
+own_key_by true x y k f g = g
+own_key_by false x y k f g = absurd (false_is_not_true f)
+
+-- an event that asks for a key and opens a request does so only where none is open for that key
+opens_alone : (s : Settings) (past : List Entry) (number t : ℕ) (event : Event) (k : Key) → key_asked event ≡ Some k →
+    opens_request event (reply_to s past number t event) ≡ true → open_for past k ≡ None
+opens_alone s past number t (events.Ask key) k own h =
+    let same : key ≡ k = cc in
+    subst (λ q. open_for past q ≡ None) same (ask_leads s past number t key h)
+opens_alone s past number t _ k own h = let e : ⊥ = cc in absurd e
+
+-- the new entry's request and one that was open before are not of one key
+alone : (d : Daemon) (now : ℕ) (event : Event) (r q : ℕ) (k : Key) → ((entry_made d now event).number == r) ≡ true → ((entry_made d now event).number == q) ≡ false →
+    is_open_request (entry_made d now event ∷ d.past) r ≡ true → is_open_request (entry_made d now event ∷ d.past) q ≡ true →
+    key_of (entry_made d now event ∷ d.past) r ≡ Some k → key_of (entry_made d now event ∷ d.past) q ≡ Some k → ⊥
+alone d now event r q k new old fr fq kr kq =
+    let e : Entry = entry_made d now event in
+    let own = own_key_by (e.number == r) (key_asked e.event) (key_of d.past r) k new kr in
+    let opened = own_opened_by (closes e.event e.reply r) (e.number == r) e (unclosed d.past r) new fr in
+    let none = opens_alone d.settings d.past (next_number d) (moment_of d now) event k own opened in
+    none_open d.past d.past k q none (request_before e d.past q old fq) (key_before e d.past q k old kq)
+
+one_by : (d : Daemon) (now : ℕ) (event : Event) (r q : ℕ) (k : Key) (a b : Bool) → HasOneOpen d.past →
+    ((entry_made d now event).number == r) ≡ a → ((entry_made d now event).number == q) ≡ b →
+    is_open_request (entry_made d now event ∷ d.past) r ≡ true → is_open_request (entry_made d now event ∷ d.past) q ≡ true →
+    key_of (entry_made d now event ∷ d.past) r ≡ Some k → key_of (entry_made d now event ∷ d.past) q ≡ Some k → r ≡ q
+one_by d now event r q k true true one a b fr fq kr kq = grind (arith, nat_tests, a, b)
+one_by d now event r q k true false one a b fr fq kr kq = absurd (alone d now event r q k a b fr fq kr kq)
+one_by d now event r q k false true one a b fr fq kr kq = absurd (alone d now event q r k b a fq fr kq kr)
+one_by d now event r q k false false one a b fr fq kr kq =
+    let e : Entry = entry_made d now event in
+    one.one r q k (request_before e d.past r a fr) (request_before e d.past q b fq) (key_before e d.past r k a kr) (key_before e d.past q k b kq)
+
+pub one_open_after : (d : Daemon) (now : ℕ) (event : Event) → HasOneOpen d.past → HasOneOpen (entry_made d now event ∷ d.past)
+one_open_after d now event one = record {
+  one = λ r q k fr fq kr kq. one_by d now event r q k ((entry_made d now event).number == r) ((entry_made d now event).number == q) one refl refl fr fq kr kq;
+}
