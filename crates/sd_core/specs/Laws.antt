@@ -1,8 +1,18 @@
 -- Laws of every step, in the words of who asks: freshness, one open request for a key, equal outcomes, account checks, guesses.
 use Rattle.std.specs.Prelude.{ℕ, Bool, true, false, ◌≡◌, ◌≢◌, ◌<◌, ◌≤◌, ◌+◌, ◌-◌, ◌*◌, ◌%◌, List, [], ◌∷◌, Option, Some, None}
 use Rattle.sd_rules.specs.declared.keys.Key.{Key}
+use Rattle.sd_rules.specs.declared.keys.Key.TheVariants as keys
+use Rattle.sd_rules.specs.declared.records.Answered.TheVariants.{Found}
+use Rattle.sd_rules.specs.declared.records.Record.TheVariants as records
+use Rattle.sd_rules.specs.declared.records.RuleBook.{RuleBook}
+use Rattle.sd_rules.specs.declared.replies.By.{By}
+use Rattle.sd_rules.specs.declared.replies.By.TheVariants as by
+use Rattle.sd_rules.specs.declared.replies.Given.{Given}
+use Rattle.sd_rules.specs.declared.replies.NotBy.{NotBy}
+use Rattle.sd_rules.specs.declared.replies.NotBy.TheVariants as not_by
+use Rattle.sd_rules.specs.declared.settings.AccessMode.TheVariants.{Ipa}
 use Rattle.sd_rules.specs.declared.events.Event.{Event}
-use Rattle.sd_rules.specs.declared.events.Event.TheVariants.{Ask, LoginGuess}
+use Rattle.sd_rules.specs.declared.events.Event.TheVariants.{Access, Ask, LoginGuess}
 use Rattle.sd_rules.specs.declared.replies.Entry.{Entry}
 use Rattle.sd_rules.specs.declared.replies.Reply.{Reply}
 use Rattle.sd_rules.specs.declared.replies.Reply.TheVariants as replies
@@ -12,6 +22,10 @@ use Rattle.sd_rules.specs.Past.{Standing, newest, is_voided, outage_at, key_of}
 use Rattle.sd_rules.specs.Requests.{is_open, is_open_request, outcome_of}
 use Rattle.sd_rules.specs.Answers.{is_found, timeout_of}
 use Rattle.sd_rules.specs.Logins.{wrong_count, last_wrong}
+use Rattle.sd_rules.specs.Access.{asker_of}
+use Rattle.sd_rules.specs.Steps.{Daemon, moment_of}
+use Rattle.sd_hbac.specs.Grants.{Grants, NoneMatches}
+use Rattle.sd_core.specs.Sound.{falls_from, holds_kinds, found_fits}
 
 -- the entry n is the newest answer of the key; its age is less than its timeout, and no invalidation that covers it stands after it
 pub record IsFreshAnswer (s : Settings) (past : List Entry) (t : ℕ) (k : Key) (n : ℕ) : Type 0 where
@@ -58,3 +72,49 @@ WrongNames s past t user _ = Unit {0}
 abbrev pub WaitsForBlock : Settings → List Entry → ℕ → Event → Reply → Type 0
 WaitsForBlock s past t (LoginGuess user named right) reply = WrongNames s past t user reply
 WaitsForBlock s past t _ reply = Unit {0}
+
+-- the reply names a rule of the newest rules, and that rule grants
+pub record IsGrantedByRule (s : Settings) (past : List Entry) (user service : List ℕ) (n place : ℕ) : Type 0 where
+  pub by_rules : s.access ≡ Ipa
+  pub answer : Standing
+  pub book : RuleBook
+  pub is_newest : newest past keys.Rules ≡ Some answer
+  pub named : answer.number ≡ n
+  pub holds : answer.answered ≡ Found (records.Rules book)
+  pub grants : Grants book (asker_of s past user service) place
+
+-- the rules decide, and none of the newest rules matches
+pub record IsDeniedByRules (s : Settings) (past : List Entry) (user service : List ℕ) : Type 0 where
+  pub by_rules : s.access ≡ Ipa
+  pub none : (a : Standing) (book : RuleBook) → newest past keys.Rules ≡ Some a → a.answered ≡ Found (records.Rules book) →
+    NoneMatches book (asker_of s past user service)
+
+abbrev pub DeniedNames : Settings → List Entry → List ℕ → List ℕ → NotBy → Type 0
+DeniedNames s past user service not_by.NoRule = IsDeniedByRules s past user service
+DeniedNames s past user service _ = Unit {0}
+
+abbrev pub GrantedNames : Settings → List Entry → List ℕ → List ℕ → By → Type 0
+GrantedNames s past user service (by.Rule n place) = IsGrantedByRule s past user service n place
+GrantedNames s past user service _ = Unit {0}
+
+abbrev pub AccessNames : Settings → List Entry → List ℕ → List ℕ → Reply → Type 0
+AccessNames s past user service (replies.Granted why) = GrantedNames s past user service why
+AccessNames s past user service (replies.Denied why) = DeniedNames s past user service why
+AccessNames s past user service _ = Unit {0}
+
+abbrev pub GoesByRules : Settings → List Entry → Event → Reply → Type 0
+GoesByRules s past (Access user service) reply = AccessNames s past user service reply
+GoesByRules s past _ reply = Unit {0}
+
+-- What holds of every step, said of what it gives over the daemon before it.
+pub record FollowsLaws (d : Daemon) (now : ℕ) (event : Event) (given : Given) : Type 0 where
+  pub fresh : NamesFresh d.settings d.past (moment_of d now) event given.reply
+  pub by_rules : GoesByRules d.settings d.past event given.reply
+  pub after_blocks : WaitsForBlock d.settings d.past (moment_of d now) event given.reply
+  pub of_kind : found_fits d.past event given.found ≡ true
+
+-- What holds of every journal that the core keeps.
+pub record IsKept (d : Daemon) : Type 0 where
+  pub numbers : falls_from d.next d.past ≡ true
+  pub kinds : holds_kinds d.past ≡ true
+  pub open_once : HasOneOpen d.past

@@ -1,6 +1,7 @@
 // The daemon's core, as the layers above use it.
 ghost use Rattle.std.specs.Prelude.{◌≡◌, ℕ, ◌+◌, ◌≤◌, [], true, false, reverse, IfOk, IfErr, OnErr, OnOk};
 ghost use Rattle.sd_rules.specs.Steps as steps;
+ghost use Rattle.sd_core.specs.Laws as laws;
 ghost use Rattle.sd_core.specs.Looks as looks;
 
 use crate::plain::{Look, PlainCore};
@@ -16,10 +17,13 @@ pub struct Core {
 
 impl Model for Core {
     ghost use Rattle.sd_rules.specs.Steps as steps;
+    ghost use Rattle.sd_core.specs.Laws as laws;
 
     ghost Value = { steps.Daemon };
 
     ghost view = { λ c. c.plain };
+
+    ghost invariant = { λ c. laws.IsKept c.plain };
 }
 
 impl Core {
@@ -65,6 +69,11 @@ impl Core {
         ensures full_only { IfErr result (λ refused. (n : ℕ) → refused.fault ≡ StepFault.JournalFull n → (steps.is_full self.old event ≡ true) × (n ≡ steps.full_count self.old)) }
         ensures back { IfErr result (λ refused. refused.event ≡ event) }
         ensures unchanged { OnErr result (self.new ≡ self.old) }
+
+        // What follows from the definitions, for every journal that the core keeps.
+        ensures laws { IfOk result (laws.FollowsLaws self.old now event) }
+        ensures outcomes { OnOk result (laws.KeepsOutcomes self.old.past self.new.past) }
+        ensures kept { laws.IsKept self.new }
     {
         self.plain.step(now, event)
     }

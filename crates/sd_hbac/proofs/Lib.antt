@@ -1,3 +1,3 @@
 mod Matching
 mod Order
-mod Least
+pub mod Least

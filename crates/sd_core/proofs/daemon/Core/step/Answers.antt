@@ -1,0 +1,26 @@
+use Rattle.std.proofs.Common.{◌≡◌, true, sym, subst}
+use Rattle.std.specs.Prelude.{IfOk, OnOk}
+use Rattle.sd_rules.specs.Steps.{Daemon, is_steppable}
+use Rattle.sd_core.specs.Laws.{IsKept, FollowsLaws, KeepsOutcomes}
+use Rattle.sd_core.proofs.KeptLaws.{kept_either, follows_if_made, outcomes_if_made}
+use Rattle.sd_core.proofs.daemon.Core.step.Goals as goal
+
+pub invariant_of-self : goal.invariant_of-self
+invariant_of-self c =
+    let steppable = subst (λ (d : Daemon). is_steppable d.past c.args.event ≡ true) (sym c.self.view_is) c.requires in
+    kept_either c.self.inside.plain c.step.new.self c.args.now c.args.event c.step.result c.step.ensures.made c.step.ensures.unchanged steppable c.self.invariant
+
+pub returns-clause-laws : goal.returns-clause-laws
+returns-clause-laws c =
+    subst (λ (d : Daemon). IfOk c.step.result (FollowsLaws d c.args.now c.args.event)) c.self.view_is
+    (follows_if_made c.self.inside.plain c.args.now c.args.event c.step.result c.step.ensures.given c.self.invariant)
+
+pub returns-clause-outcomes : goal.returns-clause-outcomes
+returns-clause-outcomes c =
+    subst (λ (d : Daemon). OnOk c.step.result (KeepsOutcomes d.past c.step.new.self.past)) c.self.view_is
+    (outcomes_if_made c.self.inside.plain c.step.new.self c.args.now c.args.event c.step.result c.step.ensures.made)
+
+pub returns-clause-kept : goal.returns-clause-kept
+returns-clause-kept c =
+    let steppable = subst (λ (d : Daemon). is_steppable d.past c.args.event ≡ true) (sym c.self.view_is) c.requires in
+    kept_either c.self.inside.plain c.step.new.self c.args.now c.args.event c.step.result c.step.ensures.made c.step.ensures.unchanged steppable c.self.invariant
