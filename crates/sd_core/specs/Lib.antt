@@ -3,3 +3,4 @@ pub mod Numbered
 pub mod Sound
 pub mod Looks
 pub mod Laws
+pub mod Lists

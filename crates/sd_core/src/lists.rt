@@ -1,0 +1,85 @@
+// Lists of steps, over any core that answers as the abstract daemon.
+ghost use Rattle.std.specs.Prelude.{◌≡◌, ℕ, ◌+◌, true, false, IfOk, IfErr, OnErr, OnOk};
+ghost use Rattle.sd_rules.specs.Steps as steps;
+ghost use Rattle.sd_core.specs.Lists as lists;
+
+use crate::daemon::Core;
+use crate::plain::PlainCore;
+use sd_base::{Copied, Items, Memory};
+use sd_rules::{Event, Given, Refused, StepFault};
+use std::alloc::Global;
+
+/// An event and the moment handed in with it, in seconds.
+#[derive(Debug, Drop, PartialEq, Eq)]
+pub struct Step {
+    pub now: u64,
+    pub event: Event,
+}
+
+/// What each step of a list gave.
+pub type GivenList = Items<Given>;
+
+/// A core that answers each event as the abstract daemon does.
+pub trait Answers {
+    /// The abstract daemon that the core is.
+    ghost daemon: { Self → steps.Daemon };
+
+    /// Makes the entry of an event and gives what it says.
+    fn answer(&mut self, now: u64, event: Event) -> Result<Given, Refused>
+        requires { steps.is_steppable (daemon self.old).past event ≡ true }
+        ensures made { OnOk result (daemon self.new ≡ steps.after (daemon self.old) now event) }
+        ensures given { IfOk result (λ given. given ≡ steps.given (daemon self.old) now event) }
+        ensures full { steps.is_full (daemon self.old) event ≡ true → IfErr result (λ refused. refused.fault ≡ StepFault.JournalFull (steps.full_count (daemon self.old))) }
+        ensures back { IfErr result (λ refused. refused.event ≡ event) }
+        ensures unchanged { OnErr result (daemon self.new ≡ daemon self.old) };
+}
+
+impl Answers for PlainCore {
+    ghost daemon = { λ c. c };
+
+    fn answer(&mut self, now: u64, event: Event) -> Result<Given, Refused> {
+        self.step(now, event)
+    }
+}
+
+impl Answers for Core {
+    ghost daemon = { λ c. c };
+
+    fn answer(&mut self, now: u64, event: Event) -> Result<Given, Refused> {
+        self.step(now, event)
+    }
+}
+
+/// Why a list of steps ended before its end.
+#[derive(Clone, Copy, Debug, PartialEq, Eq)]
+pub enum ListFault {
+    /// A step was refused.
+    Refused(StepFault),
+    Memory,
+}
+
+impl From<Memory> for ListFault {
+    fn from(_memory: Memory) -> ListFault {
+        ListFault::Memory
+    }
+}
+
+/// Makes all steps, in order: the core ends as the abstract daemon does, and each step gives what the daemon gives.
+pub fn answer_all<C: Answers>(
+    alloc: Global,
+    core: &mut C,
+    steps: &Items<Step>,
+) -> Result<GivenList, ListFault>
+    requires { lists.are_steppable (C.daemon core.old) steps.now ≡ true }
+    ensures made { OnOk result (C.daemon core.new ≡ lists.after_all (C.daemon core.old) steps.now) }
+    ensures given { IfOk result (λ given. given ≡ lists.all_given (C.daemon core.old) steps.now) }
+{
+    let mut given = GivenList::new(alloc);
+    for step in steps.items() {
+        match core.answer(step.now, step.event.copy()?) {
+            Ok(answer) => given.push(answer)?,
+            Err(refused) => return Err(ListFault::Refused(refused.fault)),
+        }
+    }
+    Ok(given)
+}
