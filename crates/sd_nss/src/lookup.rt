@@ -7,6 +7,7 @@ use sd_rules::{
     Answered, Event, Fetched, Given, Key, LookupStage, LookupStep, Need, Outcome, Record, Refusal,
     Reply, Said,
 };
+use std::mem;
 
 /// What a lookup needs next.
 pub fn need_of(key: &Key, stage: &LookupStage) -> Result<Need, Memory>
@@ -29,20 +30,20 @@ pub fn need_of(key: &Key, stage: &LookupStage) -> Result<Need, Memory>
 }
 
 /// The found record of the answer `n`, as a client is told it.
-fn found_said(number: u64, n: u64, found: Option<Record>) -> Said
-    ensures { result ≡ lookups.found_said number n found }
+fn found_said(number: u64, n: u64, found: &mut Option<Record>) -> Said
+    ensures { result ≡ lookups.found_said number n found.old }
 {
-    match found {
+    match found.take() {
         Some(found) => Said::Found(n, found),
         None => Said::Dropped(number),
     }
 }
 
 /// The found record of the answer `n` in the outage `outage`, as a client is told it.
-fn old_said(number: u64, n: u64, outage: u64, found: Option<Record>) -> Said
-    ensures { result ≡ lookups.old_said number n outage found }
+fn old_said(number: u64, n: u64, outage: u64, found: &mut Option<Record>) -> Said
+    ensures { result ≡ lookups.old_said number n outage found.old }
 {
-    match found {
+    match found.take() {
         Some(found) => Said::Old(n, outage, found),
         None => Said::Dropped(number),
     }
@@ -59,8 +60,8 @@ fn refusal_said(refusal: Refusal) -> Said
 }
 
 /// An outcome, as a client is told it.
-fn outcome_said(number: u64, found: Option<Record>, outcome: Outcome) -> Said
-    ensures { result ≡ lookups.outcome_said number found outcome }
+fn outcome_said(number: u64, found: &mut Option<Record>, outcome: Outcome) -> Said
+    ensures { result ≡ lookups.outcome_said number found.old outcome }
 {
     match outcome {
         Outcome::Found(n) => found_said(number, n, found),
@@ -83,8 +84,8 @@ fn answered_said(number: u64, answered: Answered) -> Said
     }
 }
 
-fn after_ask(number: u64, found: Option<Record>, reply: Reply) -> LookupStep
-    ensures { result ≡ lookups.after_ask number found reply }
+fn after_ask(number: u64, found: &mut Option<Record>, reply: Reply) -> LookupStep
+    ensures { result ≡ lookups.after_ask number found.old reply }
 {
     match reply {
         Reply::Filtered => LookupStep::Ended(Said::Filtered),
@@ -100,8 +101,8 @@ fn after_ask(number: u64, found: Option<Record>, reply: Reply) -> LookupStep
     }
 }
 
-fn after_collect(ticket: u64, number: u64, found: Option<Record>, reply: Reply) -> LookupStep
-    ensures { result ≡ lookups.after_collect ticket number found reply }
+fn after_collect(ticket: u64, number: u64, found: &mut Option<Record>, reply: Reply) -> LookupStep
+    ensures { result ≡ lookups.after_collect ticket number found.old reply }
 {
     match reply {
         Reply::NotYet(_) => LookupStep::Next(LookupStage::Wait(ticket)),
@@ -120,11 +121,14 @@ fn after_pick(request: u64, number: u64, reply: Reply) -> LookupStep
     }
 }
 
-fn after_answer(request: u64, answered: Answered, number: u64, reply: Reply) -> LookupStep
-    ensures { result ≡ lookups.after_answer request answered number reply }
+fn after_answer(request: u64, answered: &mut Answered, number: u64, reply: Reply) -> LookupStep
+    ensures { result ≡ lookups.after_answer request answered.old number reply }
 {
     match reply {
-        Reply::Closed => LookupStep::Ended(answered_said(number, answered)),
+        Reply::Closed => {
+            let answered = mem::replace(answered, Answered::Absent);
+            LookupStep::Ended(answered_said(number, answered))
+        }
         Reply::Again(_) => LookupStep::Next(LookupStage::Pick(request)),
         _ => LookupStep::Ended(Said::Dropped(number)),
     }
@@ -148,8 +152,8 @@ fn after_fall(request: u64, number: u64, reply: Reply) -> LookupStep
     }
 }
 
-fn after_outage(request: u64, number: u64, found: Option<Record>, reply: Reply) -> LookupStep
-    ensures { result ≡ lookups.after_outage request number found reply }
+fn after_outage(request: u64, number: u64, found: &mut Option<Record>, reply: Reply) -> LookupStep
+    ensures { result ≡ lookups.after_outage request number found.old reply }
 {
     match reply {
         Reply::Servable(_) => LookupStep::Next(LookupStage::Pick(request)),
@@ -158,28 +162,23 @@ fn after_outage(request: u64, number: u64, found: Option<Record>, reply: Reply) 
     }
 }
 
-/// How a lookup goes on after a reply.
-pub fn replied(stage: LookupStage, given: Given) -> LookupStep
-    ensures { result ≡ lookups.lookup_replied stage given }
+/// How a lookup goes on after a reply, whose record it takes.
+pub fn replied(stage: &mut LookupStage, given: &mut Given) -> LookupStep
+    ensures { result ≡ lookups.lookup_replied stage.old given.old }
 {
-    let Given {
-        number,
-        reply,
-        found,
-        hash: _hash,
-        rule: _rule,
-    } = given;
+    let number = given.number;
+    let reply = given.reply;
     match stage {
-        LookupStage::Ask => after_ask(number, found, reply),
-        LookupStage::Wait(ticket) => after_collect(ticket, number, found, reply),
-        LookupStage::Pick(request) => after_pick(request, number, reply),
+        LookupStage::Ask => after_ask(number, &mut given.found, reply),
+        LookupStage::Wait(ticket) => after_collect(*ticket, number, &mut given.found, reply),
+        LookupStage::Pick(request) => after_pick(*request, number, reply),
         LookupStage::Search(request, server) => {
-            LookupStep::Next(LookupStage::Search(request, server))
+            LookupStep::Next(LookupStage::Search(*request, *server))
         }
-        LookupStage::Answer(request, answered) => after_answer(request, answered, number, reply),
-        LookupStage::Refuse(_, refusal) => after_refuse(refusal, number, reply),
-        LookupStage::Fall(request, _, _) => after_fall(request, number, reply),
-        LookupStage::Outage(request) => after_outage(request, number, found, reply),
+        LookupStage::Answer(request, answered) => after_answer(*request, answered, number, reply),
+        LookupStage::Refuse(_, refusal) => after_refuse(*refusal, number, reply),
+        LookupStage::Fall(request, _, _) => after_fall(*request, number, reply),
+        LookupStage::Outage(request) => after_outage(*request, number, &mut given.found, reply),
     }
 }
 
@@ -197,11 +196,10 @@ fn after_search(request: u64, server: u32, fetched: Fetched) -> LookupStage
 }
 
 /// How a lookup goes on after a server's answer.
-pub fn fetched(stage: LookupStage, found: Fetched) -> LookupStage
-    ensures { result ≡ lookups.lookup_fetched stage found }
+pub fn fetched(stage: &mut LookupStage, found: Fetched)
+    ensures { stage.new ≡ lookups.lookup_fetched stage.old found }
 {
-    match stage {
-        LookupStage::Search(request, server) => after_search(request, server, found),
-        other => other,
+    if let LookupStage::Search(request, server) = stage {
+        *stage = after_search(*request, *server, found);
     }
 }

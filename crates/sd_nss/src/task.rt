@@ -1,14 +1,13 @@
 // The task of a client's lookup.
-ghost use Rattle.std.specs.Prelude.{◌≡◌, true};
+ghost use Rattle.std.specs.Prelude.{◌≡◌, true, IfOk};
 ghost use Rattle.sd_rules.specs.Lookups as lookups;
 ghost use Rattle.sd_rules.specs.Scripts.{Script, Lookup, need_at, told_at, replied_at, fetched_at, bound_at, key_at};
 ghost use Rattle.sd_nss.specs.Asked.{Asked};
 
 use crate::lookup;
-use sd_base::Memory;
-use sd_rules::{Bound, Fetched, Given, Key, LookupCourse, LookupStage, LookupStep, Need, Said, Task};
+use sd_base::{Copied, Memory};
+use sd_rules::{Bound, Fetched, Given, Key, LookupCourse, LookupStage, LookupStep, Need, Task};
 use std::marker::Model;
-use std::mem;
 
 /// A client's request for a key.
 #[derive(Drop)]
@@ -64,61 +63,88 @@ fn renewed(step: LookupStep) -> LookupCourse
     }
 }
 
+/// Puts a request where it goes on.
+fn put(course: &mut LookupCourse, next: LookupCourse)
+    ensures { course.new ≡ next }
+{
+    *course = next;
+}
+
 /// How a request goes on after a reply.
-fn course_replied(course: LookupCourse, given: Given) -> LookupCourse
-    ensures { result ≡ lookups.course_replied course given }
+fn replied(course: &mut LookupCourse, given: &mut Given)
+    ensures { course.new ≡ lookups.course_replied course.old given.old }
 {
     match course {
-        LookupCourse::Looking(stage) => looked(lookup::replied(stage, given)),
-        LookupCourse::Renewing(stage) => renewed(lookup::replied(stage, given)),
-        other => other,
+        LookupCourse::Looking(stage) => {
+            let step = lookup::replied(stage, given);
+            put(course, looked(step));
+        }
+        LookupCourse::Renewing(stage) => {
+            let step = lookup::replied(stage, given);
+            put(course, renewed(step));
+        }
+        _ => {}
     }
 }
 
 /// How a request goes on after a server's answer.
-fn course_fetched(course: LookupCourse, found: Fetched) -> LookupCourse
-    ensures { result ≡ lookups.course_fetched course found }
+fn fetched(course: &mut LookupCourse, found: Fetched)
+    ensures { course.new ≡ lookups.course_fetched course.old found }
 {
     match course {
-        LookupCourse::Looking(stage) => LookupCourse::Looking(lookup::fetched(stage, found)),
-        LookupCourse::Renewing(stage) => LookupCourse::Renewing(lookup::fetched(stage, found)),
-        other => other,
+        LookupCourse::Looking(stage) => lookup::fetched(stage, found),
+        LookupCourse::Renewing(stage) => lookup::fetched(stage, found),
+        _ => {}
+    }
+}
+
+/// What a request needs next.
+fn course_need(key: &Key, course: &LookupCourse) -> Result<Need, Memory>
+    ensures { IfOk result (λ need. need ≡ lookups.course_need key.now course.now) }
+{
+    match course {
+        LookupCourse::Looking(stage) => lookup::need_of(key, stage),
+        LookupCourse::Saying(said) => Ok(Need::Say(said.copy()?)),
+        LookupCourse::SayingFirst(said, _) => Ok(Need::Say(said.copy()?)),
+        LookupCourse::Renewing(stage) => lookup::need_of(key, stage),
+        LookupCourse::Over => Ok(Need::End),
+    }
+}
+
+/// How a request goes on once its need is known.
+fn told(course: &mut LookupCourse)
+    ensures { course.new ≡ lookups.course_told course.old }
+{
+    match course {
+        LookupCourse::Saying(_) => put(course, LookupCourse::Over),
+        LookupCourse::SayingFirst(_, request) => {
+            let request = *request;
+            put(course, LookupCourse::Renewing(LookupStage::Pick(request)));
+        }
+        _ => {}
     }
 }
 
 impl Task for NssTask {
     ghost script = { λ t. Lookup t.key t.course };
 
+    #[tactic(auto, using(sd_rules::proofs::ScriptLaws::told_stays, sd_rules::proofs::LookupKinds::course_told_of_kind, sd_rules::proofs::LookupKinds::course_need_of_kind, sd_rules::proofs::LookupKinds::course_need_tellable))]
     fn need(&mut self) -> Result<Need, Memory> {
-        match mem::replace(&mut self.course, LookupCourse::Over) {
-            LookupCourse::Looking(stage) => {
-                let need = lookup::need_of(&self.key, &stage);
-                self.course = LookupCourse::Looking(stage);
-                need
-            }
-            LookupCourse::Saying(said) => Ok(Need::Say(said)),
-            LookupCourse::SayingFirst(said, request) => {
-                self.course = LookupCourse::Renewing(LookupStage::Pick(request));
-                Ok(Need::Say(said))
-            }
-            LookupCourse::Renewing(stage) => {
-                let need = lookup::need_of(&self.key, &stage);
-                self.course = LookupCourse::Renewing(stage);
-                need
-            }
-            LookupCourse::Over => Ok(Need::End),
-        }
+        let need = course_need(&self.key, &self.course)?;
+        told(&mut self.course);
+        Ok(need)
     }
 
+    #[tactic(auto, using(sd_rules::proofs::LookupKinds::reply_keeps_kind))]
     fn replied(&mut self, given: Given) -> Result<(), Memory> {
-        let course = mem::replace(&mut self.course, LookupCourse::Over);
-        self.course = course_replied(course, given);
+        let mut given = given;
+        replied(&mut self.course, &mut given);
         Ok(())
     }
 
+    #[tactic(auto, using(sd_rules::proofs::LookupKinds::search_keeps_kind))]
     fn fetched(&mut self, found: Fetched) {
-        let course = mem::replace(&mut self.course, LookupCourse::Over);
-        self.course = course_fetched(course, found);
+        fetched(&mut self.course, found);
     }
 
     fn bound(&mut self, _bound: Bound) {}

@@ -1,2 +1,4 @@
 pub mod LookupKinds
 pub mod ReachingLaws
+pub mod ScriptKinds
+pub mod ScriptLaws

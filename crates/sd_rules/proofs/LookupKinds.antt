@@ -1,5 +1,5 @@
 -- A lookup keeps records of the kind that its key asks for.
-use Rattle.std.proofs.Common.{◌≡◌, ℕ, Bool, true, false, Option, Some, None, refl}
+use Rattle.std.proofs.Common.{◌≡◌, ℕ, true, Option, Some, None, refl}
 use Rattle.sd_rules.specs.declared.keys.Key.{Key}
 use Rattle.sd_rules.specs.declared.keys.Key.TheVariants as keys
 use Rattle.sd_rules.specs.declared.records.Record.{Record}
@@ -24,7 +24,8 @@ use Rattle.sd_rules.specs.declared.tasks.Fetched.TheVariants as fetches
 use Rattle.sd_rules.specs.declared.tasks.Said.{Said}
 use Rattle.sd_rules.specs.declared.tasks.Said.TheVariants as says
 use Rattle.sd_rules.specs.Keys.{is_of_kind}
-use Rattle.sd_rules.specs.Lookups.{found_said, old_said, refusal_said, outcome_said, answered_said, after_ask, after_collect, after_pick, after_answer, after_refuse, after_fall, after_outage, lookup_replied, after_search, lookup_fetched, is_said_of_kind, is_stage_of_kind, is_step_of_kind, is_course_of_kind, is_fetched_of_kind, is_found_of_kind, is_client_key, is_client_record, is_sayable, looked, renewed, course_replied, course_fetched, course_told}
+use Rattle.sd_rules.specs.Scripts.{is_need_of_kind, is_tellable, answers_search, awaits_reply, fits_found}
+use Rattle.sd_rules.specs.Lookups.{lookup_need, course_need, course_key, found_said, old_said, refusal_said, outcome_said, answered_said, after_ask, after_collect, after_pick, after_answer, after_refuse, after_fall, after_outage, lookup_replied, after_search, lookup_fetched, is_said_of_kind, is_stage_of_kind, is_step_of_kind, is_course_of_kind, is_fetched_of_kind, is_found_of_kind, is_client_key, is_client_record, is_sayable, looked, renewed, course_replied, course_fetched, course_told}
 
 found_of_kind : (key : Key) (number n : ℕ) (found : Option Record) →
     is_found_of_kind key found ≡ true → is_said_of_kind key (found_said number n found) ≡ true
@@ -156,7 +157,7 @@ course_told_of_kind key (courses.SayingFirst said request) s = refl
 course_told_of_kind key courses.Over s = refl
 
 -- a record of the kind of a client's key is one that clients are told
-client_record : (key : Key) (found : Record) →
+pub client_record : (key : Key) (found : Record) →
     is_client_key key ≡ true → is_of_kind found key ≡ true → is_client_record found ≡ true
 client_record (keys.User name) (records.User user) k h = refl
 client_record (keys.Uid uid) (records.User user) k h = refl
@@ -174,3 +175,71 @@ pub sayable_of_kind : (key : Key) (said : Said) →
 sayable_of_kind key (says.Found n found) k h = client_record key found k h
 sayable_of_kind key (says.Old n o found) k h = client_record key found k h
 sayable_of_kind key _ k h = refl
+
+pub need_of_kind : (key : Key) (stage : LookupStage) →
+    is_stage_of_kind key stage ≡ true → is_need_of_kind (Some key) (lookup_need key stage) ≡ true
+need_of_kind key (Answer request answered) s = s
+need_of_kind key _ s = refl
+
+-- what a lookup for a client is to record is of its key's kind
+pub course_need_of_kind : (key : Key) (course : LookupCourse) →
+    is_course_of_kind key course ≡ true → is_need_of_kind (course_key key course) (course_need key course) ≡ true
+course_need_of_kind key (courses.Looking stage) s = need_of_kind key stage s
+course_need_of_kind key (courses.Renewing stage) s = need_of_kind key stage s
+course_need_of_kind key _ s = refl
+
+pub no_saying : (key : Key) (stage : LookupStage) → is_tellable (lookup_need key stage) ≡ true
+no_saying key Ask = refl
+no_saying key _ = refl
+
+-- what a lookup for a client is to say can be told
+pub course_need_tellable : (key : Key) (course : LookupCourse) →
+    is_client_key key ≡ true → is_course_of_kind key course ≡ true → is_tellable (course_need key course) ≡ true
+course_need_tellable key (courses.Looking stage) k s = no_saying key stage
+course_need_tellable key (courses.Renewing stage) k s = no_saying key stage
+course_need_tellable key (courses.Saying said) k s = sayable_of_kind key said k s
+course_need_tellable key (courses.SayingFirst said request) k s = sayable_of_kind key said k s
+course_need_tellable key courses.Over k s = refl
+
+pub stage_search_of_kind : (key : Key) (stage : LookupStage) (fetched : Fetched) →
+    answers_search (lookup_need key stage) fetched ≡ true → is_fetched_of_kind key fetched ≡ true
+stage_search_of_kind key (Search request server) fetched h = h
+stage_search_of_kind key Ask fetched h = cc
+stage_search_of_kind key (Wait ticket) fetched h = cc
+stage_search_of_kind key (Pick request) fetched h = cc
+stage_search_of_kind key (Answer request answered) fetched h = cc
+stage_search_of_kind key (Refuse request refusal) fetched h = cc
+stage_search_of_kind key (Fall request server why) fetched h = cc
+stage_search_of_kind key (Outage request) fetched h = cc
+
+pub search_answers_kind : (key : Key) (course : LookupCourse) (fetched : Fetched) →
+    answers_search (course_need key course) fetched ≡ true → is_fetched_of_kind key fetched ≡ true
+search_answers_kind key (courses.Looking stage) fetched h = stage_search_of_kind key stage fetched h
+search_answers_kind key (courses.Renewing stage) fetched h = stage_search_of_kind key stage fetched h
+search_answers_kind key (courses.Saying said) fetched h = cc
+search_answers_kind key (courses.SayingFirst said request) fetched h = cc
+search_answers_kind key courses.Over fetched h = cc
+
+-- an answer to a search that is needed leads on to what is of the key's kind
+pub search_keeps_kind : (key : Key) (course : LookupCourse) (fetched : Fetched) →
+    is_course_of_kind key course ≡ true → answers_search (course_need key course) fetched ≡ true →
+    is_course_of_kind key (course_fetched course fetched) ≡ true
+search_keeps_kind key course fetched s h =
+    course_fetched_of_kind key course fetched s (search_answers_kind key course fetched h)
+
+-- of a reply: a record of the kind of the key that is looked up leads on to what is of that kind
+pub reply_fits : (key : Key) (course : LookupCourse) (found : Option Record) →
+    awaits_reply (course_need key course) ≡ true → fits_found (course_key key course) found ≡ true →
+    is_found_of_kind key found ≡ true
+reply_fits key (courses.Looking stage) found a h = h
+reply_fits key (courses.Renewing stage) found a h = h
+reply_fits key (courses.Saying said) found a h = cc
+reply_fits key (courses.SayingFirst said request) found a h = cc
+reply_fits key courses.Over found a h = cc
+
+pub reply_keeps_kind : (key : Key) (course : LookupCourse) (given : Given) →
+    is_course_of_kind key course ≡ true → awaits_reply (course_need key course) ≡ true →
+    fits_found (course_key key course) given.found ≡ true →
+    is_course_of_kind key (course_replied course given) ≡ true
+reply_keeps_kind key course given s a h =
+    course_replied_of_kind key course given s (reply_fits key course given.found a h)

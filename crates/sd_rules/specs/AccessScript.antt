@@ -21,8 +21,8 @@ use Rattle.sd_rules.specs.declared.tasks.Need.{Need}
 use Rattle.sd_rules.specs.declared.tasks.Need.TheVariants as needs
 use Rattle.sd_rules.specs.declared.tasks.Said.{Said}
 use Rattle.sd_rules.specs.Keys.{is_user_key}
-use Rattle.sd_rules.specs.Lookups.{lookup_need, lookup_replied, lookup_fetched, dn_said}
-use Rattle.sd_rules.specs.Closings.{Closing, Saying, closing_need, closing_told, closing_replied, closing_fetched, closing_key}
+use Rattle.sd_rules.specs.Lookups.{lookup_need, lookup_replied, lookup_fetched, dn_said, is_stage_of_kind}
+use Rattle.sd_rules.specs.Closings.{Closing, Saying, closing_need, closing_told, closing_replied, closing_fetched, closing_key, is_closing_of_kind}
 
 -- The words of an account check, and what decides it.
 pub record AccessWords : Type 0 where
@@ -113,3 +113,8 @@ access_key (Closed closing) = closing_key closing
 
 abbrev pub access_begun : AccessWords → AccessCourse
 access_begun words = Gathering (keys.User words.user) (keys_checked words.user words.mode) [] stages.Ask
+
+abbrev pub is_access_of_kind : AccessCourse → Bool
+is_access_of_kind (Gathering key keys led stage) = is_stage_of_kind key stage
+is_access_of_kind (Checking led) = true
+is_access_of_kind (Closed closing) = is_closing_of_kind closing

@@ -1,5 +1,5 @@
 -- Closings: how a login or an account check ends.
-use Rattle.std.specs.Prelude.{ℕ, List, [], ◌∷◌, Option, Some, None}
+use Rattle.std.specs.Prelude.{Bool, true, List, [], ◌∷◌, Option, Some, None}
 use Rattle.sd_rules.specs.declared.keys.Key.{Key}
 use Rattle.sd_rules.specs.declared.replies.Given.{Given}
 use Rattle.sd_rules.specs.declared.scripts.Led.{Led}
@@ -11,7 +11,7 @@ use Rattle.sd_rules.specs.declared.tasks.Fetched.{Fetched}
 use Rattle.sd_rules.specs.declared.tasks.Need.{Need}
 use Rattle.sd_rules.specs.declared.tasks.Need.TheVariants as needs
 use Rattle.sd_rules.specs.declared.tasks.Said.{Said}
-use Rattle.sd_rules.specs.Lookups.{lookup_need, lookup_replied, lookup_fetched}
+use Rattle.sd_rules.specs.Lookups.{lookup_need, lookup_replied, lookup_fetched, is_sayable, is_stage_of_kind}
 
 -- How a login or an account check ends: its client is told, then the requests that it leads to renew answers are carried out,
 -- the first led first, each to its end.
@@ -51,3 +51,9 @@ closing_fetched closing fetched = closing
 abbrev pub closing_key : Closing → Option Key
 closing_key (Renewing key stage led) = Some key
 closing_key _ = None
+
+-- what is to be told can be told, and what is to be recorded is of its key's kind
+abbrev pub is_closing_of_kind : Closing → Bool
+is_closing_of_kind (Saying said led) = is_sayable said
+is_closing_of_kind (Renewing key stage led) = is_stage_of_kind key stage
+is_closing_of_kind Over = true

@@ -1,11 +1,9 @@
 -- Kept rows: what is kept of a journal over a restart, and the journal that is opened with them.
-use Rattle.std.specs.Prelude.{ℕ, Bool, true, false, ◌&&◌, ◌||◌, ◌==◌, ◌+◌, ◌*◌, max, nat_lt, nat_le, not, map, reverse, List, [], ◌∷◌, ◌++◌, Option, Some, None, sum_by, if◌then◌else◌}
+use Rattle.std.specs.Prelude.{ℕ, Bool, true, false, ◌&&◌, ◌||◌, ◌==◌, ◌+◌, ◌*◌, nat_lt, nat_le, not, map, reverse, List, [], ◌∷◌, Option, Some, None, sum_by, if◌then◌else◌}
 use Rattle.std.specs.List.{list_any}
 use Rattle.sd_rules.specs.declared.events.Event.{Event}
-use Rattle.sd_rules.specs.declared.events.Event.TheVariants.{Fall, Outage, Offline, Stop, LoginOnline, Kept}
+use Rattle.sd_rules.specs.declared.events.Event.TheVariants.{Fall, Outage, Offline, Stop, Kept}
 use Rattle.sd_rules.specs.declared.events.Hash.{Hash}
-use Rattle.sd_rules.specs.declared.events.LoginResult.{LoginResult}
-use Rattle.sd_rules.specs.declared.events.LoginResult.TheVariants.{Right}
 use Rattle.sd_rules.specs.declared.events.Row.{Row}
 use Rattle.sd_rules.specs.declared.events.Row.TheVariants as rows
 use Rattle.sd_rules.specs.declared.replies.Entry.{Entry}

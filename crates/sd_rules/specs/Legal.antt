@@ -1,5 +1,5 @@
 -- Legal journals: each entry made since the opening is what the rules make of the entries before it.
-use Rattle.std.specs.Prelude.{◌≡◌, ℕ, List, [], ◌∷◌, ◌++◌}
+use Rattle.std.specs.Prelude.{◌≡◌, List, [], ◌∷◌, ◌++◌}
 use Rattle.sd_rules.specs.declared.replies.Entry.{Entry}
 use Rattle.sd_rules.specs.Steps.{Daemon, number_after, moment_after, reply_to}
 

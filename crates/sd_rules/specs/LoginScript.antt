@@ -1,5 +1,5 @@
 -- The script of a login: its user is looked up, then logged in at a server, or by a stored hash.
-use Rattle.std.specs.Prelude.{ℕ, Bool, true, false, ◌||◌, ◌==◌, List, [], ◌∷◌, Option, Some, None, if◌then◌else◌}
+use Rattle.std.specs.Prelude.{ℕ, Bool, true, ◌||◌, ◌==◌, List, [], ◌∷◌, Option, Some, None, if◌then◌else◌}
 use Rattle.sd_base.specs.declared.Why.TheVariants as whys
 use Rattle.sd_rules.specs.declared.keys.Key.{Key}
 use Rattle.sd_rules.specs.declared.keys.Key.TheVariants as keys
@@ -29,8 +29,8 @@ use Rattle.sd_rules.specs.declared.tasks.Need.{Need}
 use Rattle.sd_rules.specs.declared.tasks.Need.TheVariants as needs
 use Rattle.sd_rules.specs.declared.tasks.Said.{Said}
 use Rattle.sd_rules.specs.Keys.{same_name}
-use Rattle.sd_rules.specs.Lookups.{lookup_need, lookup_replied, lookup_fetched, dn_said}
-use Rattle.sd_rules.specs.Closings.{Closing, Saying, closing_need, closing_told, closing_replied, closing_fetched, closing_key}
+use Rattle.sd_rules.specs.Lookups.{lookup_need, lookup_replied, lookup_fetched, dn_said, is_stage_of_kind}
+use Rattle.sd_rules.specs.Closings.{Closing, Saying, closing_need, closing_told, closing_replied, closing_fetched, closing_key, is_closing_of_kind}
 
 -- How passwords are hashed: the hash of a password with a salt, and the salt of an attempt.
 pub record Hashing : Type 0 where
@@ -215,3 +215,8 @@ login_key words (Closed closing) = closing_key closing
 abbrev pub login_begun : List ℕ → LoginCourse
 login_begun [] = Closed (Saying says.DeniedEmpty [])
 login_begun (byte ∷ bytes) = Finding stages.Ask
+
+abbrev pub is_login_of_kind : LoginWords → LoginCourse → Bool
+is_login_of_kind words (Finding stage) = is_stage_of_kind (keys.User words.user) stage
+is_login_of_kind words (Proving dn led stage) = true
+is_login_of_kind words (Closed closing) = is_closing_of_kind closing

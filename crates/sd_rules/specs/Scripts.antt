@@ -1,14 +1,11 @@
 -- Scripts: what a client's request needs next, by its own words and by what it has seen so far.
 use Rattle.std.specs.Prelude.{ℕ, Bool, true, false, List, [], ◌∷◌, Option, Some, None}
 use Rattle.sd_rules.specs.declared.keys.Key.{Key}
-use Rattle.sd_rules.specs.declared.keys.Key.TheVariants as keys
 use Rattle.sd_rules.specs.declared.records.Record.{Record}
 use Rattle.sd_rules.specs.declared.events.Event.{Event}
 use Rattle.sd_rules.specs.declared.events.Event.TheVariants as events
 use Rattle.sd_rules.specs.declared.replies.Given.{Given}
 use Rattle.sd_rules.specs.declared.scripts.LookupCourse.{LookupCourse}
-use Rattle.sd_rules.specs.declared.scripts.LookupCourse.TheVariants.{Looking}
-use Rattle.sd_rules.specs.declared.scripts.LookupStage.TheVariants as stages
 use Rattle.sd_rules.specs.declared.tasks.Bound.{Bound}
 use Rattle.sd_rules.specs.declared.tasks.Bound.TheVariants as bounds
 use Rattle.sd_rules.specs.declared.tasks.Fetched.{Fetched}
@@ -18,7 +15,6 @@ use Rattle.sd_rules.specs.declared.tasks.Need.TheVariants as needs
 use Rattle.sd_rules.specs.declared.tasks.Said.TheVariants as says
 use Rattle.sd_rules.specs.Keys.{is_answer_of_kind}
 use Rattle.sd_rules.specs.Lookups.{begun, course_need, course_told, course_replied, course_fetched, course_key, is_found_of_kind, is_fetched_of_kind, is_sayable}
-use Rattle.sd_rules.specs.Closings.{Saying}
 use Rattle.sd_rules.specs.LoginScript.{LoginWords, LoginCourse, login_course_need, login_course_told, login_course_replied, login_course_fetched, login_course_bound, login_begun, login_key}
 use Rattle.sd_rules.specs.AccessScript.{AccessWords, AccessCourse, access_need, access_told, access_replied, access_fetched, access_begun, access_key}
 
@@ -116,15 +112,11 @@ script_after script (seen ∷ earlier) = seen_at (script_after script earlier) s
 abbrev pub next_need : Script → List Seen → Need
 next_need script seen = need_at (script_after script seen)
 
--- which needs wait for a reply, for what a search gives, for what a bind gives
+-- which needs wait for a reply, and which for what a bind gives
 abbrev pub awaits_reply : Need → Bool
 awaits_reply (needs.Step event) = true
 awaits_reply (needs.Await ticket) = true
 awaits_reply _ = false
-
-abbrev pub awaits_fetch : Need → Bool
-awaits_fetch (needs.Fetch server key) = true
-awaits_fetch _ = false
 
 abbrev pub awaits_bind : Need → Bool
 awaits_bind (needs.Bind server dn password) = true
@@ -142,9 +134,15 @@ abbrev pub fits_found : Option Key → Option Record → Bool
 fits_found None found = true
 fits_found (Some key) found = is_found_of_kind key found
 
-abbrev pub fits_fetched : Option Key → Fetched → Bool
-fits_fetched None fetched = true
-fits_fetched (Some key) fetched = is_fetched_of_kind key fetched
+-- a server's answer is one to a search that is needed, and a found record is of the kind of the key that is searched
+abbrev pub answers_search : Need → Fetched → Bool
+answers_search (needs.Fetch server key) fetched = is_fetched_of_kind key fetched
+answers_search _ fetched = false
+
+-- a need that is something to tell
+abbrev pub is_saying : Need → Bool
+is_saying (needs.Say said) = true
+is_saying _ = false
 
 abbrev pub is_out_of_memory : Fetched → Bool
 is_out_of_memory fetches.Memory = true

@@ -1,6 +1,6 @@
 // What a client's request needs next, and what it is told.
 ghost use Rattle.std.specs.Prelude.{◌≡◌, true, false, IfOk, OnOk, OnErr};
-ghost use Rattle.sd_rules.specs.Scripts.{Script, need_at, told_at, replied_at, fetched_at, bound_at, key_at, awaits_reply, awaits_fetch, awaits_bind, fits_found, fits_fetched, is_out_of_memory, is_bind_out_of_memory, is_need_of_kind, is_tellable};
+ghost use Rattle.sd_rules.specs.Scripts.{Script, need_at, told_at, replied_at, fetched_at, bound_at, key_at, awaits_reply, awaits_bind, answers_search, fits_found, is_saying, is_out_of_memory, is_bind_out_of_memory, is_need_of_kind, is_tellable};
 
 use crate::events::Event;
 use crate::keys::Key;
@@ -86,6 +86,37 @@ pub enum Need {
     End,
 }
 
+impl Copied for Said {
+    fn copy(&self) -> Result<Said, Memory> {
+        Ok(match self {
+            Said::Found(n, found) => Said::Found(*n, found.copy()?),
+            Said::Absent(n) => Said::Absent(*n),
+            Said::Old(n, outage, found) => Said::Old(*n, *outage, found.copy()?),
+            Said::OldNone(n, outage) => Said::OldNone(*n, *outage),
+            Said::Dark(outage) => Said::Dark(*outage),
+            Said::Filtered => Said::Filtered,
+            Said::Refused(code) => Said::Refused(*code),
+            Said::Many(count) => Said::Many(*count),
+            Said::Dropped(n) => Said::Dropped(*n),
+            Said::DeniedEmpty => Said::DeniedEmpty,
+            Said::AcceptedOnline(n) => Said::AcceptedOnline(*n),
+            Said::WrongOnline(n) => Said::WrongOnline(*n),
+            Said::AcceptedOffline(n) => Said::AcceptedOffline(*n),
+            Said::WrongOffline(n) => Said::WrongOffline(*n),
+            Said::Expired(moment) => Said::Expired(*moment),
+            Said::Blocked(until) => Said::Blocked(*until),
+            Said::NoHash => Said::NoHash,
+            Said::GrantedPermit(n) => Said::GrantedPermit(*n),
+            Said::GrantedSimple(n) => Said::GrantedSimple(*n),
+            Said::GrantedRule(n, name) => Said::GrantedRule(*n, name.copy()?),
+            Said::DeniedDeny(n) => Said::DeniedDeny(*n),
+            Said::DeniedSimple(n) => Said::DeniedSimple(*n),
+            Said::DeniedNoRule(n) => Said::DeniedNoRule(*n),
+            Said::Done(n) => Said::Done(*n),
+        })
+    }
+}
+
 impl Copied for Fetched {
     fn copy(&self) -> Result<Fetched, Memory> {
         Ok(match self {
@@ -109,6 +140,7 @@ pub trait Task {
     fn need(&mut self) -> Result<Need, Memory>
         ensures need { IfOk result (λ need. need ≡ need_at (script self.old)) }
         ensures told { OnOk result (script self.new ≡ told_at (script self.old)) }
+        ensures stays { IfOk result (λ need. is_saying need ≡ false → script self.new ≡ script self.old) }
         ensures kind { IfOk result (λ need. is_need_of_kind (key_at (script self.old)) need ≡ true) }
         ensures tellable { IfOk result (λ need. is_tellable need ≡ true) }
         ensures unchanged { OnErr result (script self.new ≡ script self.old) };
@@ -122,8 +154,7 @@ pub trait Task {
 
     /// What the search at a server that was needed gave.
     fn fetched(&mut self, found: Fetched)
-        requires awaited { awaits_fetch (need_at (script self.old)) ≡ true }
-        requires kind { fits_fetched (key_at (script self.old)) found ≡ true }
+        requires awaited { answers_search (need_at (script self.old)) found ≡ true }
         requires told { is_out_of_memory found ≡ false }
         ensures { script self.new ≡ fetched_at (script self.old) found };
 
