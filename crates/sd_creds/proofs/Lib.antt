@@ -3,3 +3,4 @@ mod Folded
 mod Pieces
 mod Decoded
 mod Read
+pub mod Journal

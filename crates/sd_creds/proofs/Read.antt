@@ -1,5 +1,5 @@
 -- The pieces of the text of a hash.
-use Rattle.std.proofs.Common.{◌≡◌, ℕ, ◌+◌, ◌-◌, ◌*◌, ◌/◌, ◌%◌, List, ◌++◌, length, codes, Result, Ok, Err, refl, sym, ap, ◌∙◌, append_assoc, replicate, length-append}
+use Rattle.std.proofs.Common.{◌≡◌, ℕ, ◌+◌, List, ◌++◌, length, codes, Result, Ok, refl, sym, ap, ◌∙◌, append_assoc, replicate, length-append}
 use Rattle.std.proofs.lemmas.List.{length-replicate}
 use Rattle.base64.specs.Engines.{standard}
 use Rattle.base64.specs.Rfc4648.{encode_symbols, unpadded_len, padding_len}

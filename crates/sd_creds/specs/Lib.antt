@@ -1,2 +1,4 @@
 pub mod Hashes
 pub mod Texts
+pub mod Seen
+pub mod Marks

@@ -1,4 +1,4 @@
-use Rattle.std.proofs.Common.{◌≡◌, ◌↔◌, ◌<◌, ℕ, get_or, arith}
+use Rattle.std.proofs.Common.{arith}
 use Rattle.sd_creds.proofs.Folded.{one_more, all_compared}
 use Rattle.sd_creds.proofs.hashes.is_same_digest.Goals as goal
 

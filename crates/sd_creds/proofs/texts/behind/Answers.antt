@@ -1,4 +1,4 @@
-use Rattle.std.proofs.Common.{◌≡◌, ◌++◌, length, drop, ap, sym, ◌∙◌}
+use Rattle.std.proofs.Common.{◌++◌, ap, sym, ◌∙◌}
 use Rattle.sd_creds.proofs.Pieces.{front_and_rest, no_front}
 use Rattle.sd_creds.proofs.texts.behind.Goals as goal
 

@@ -1,0 +1,150 @@
+// The limits on stored hashes: how long they may be used, and how many wrong guesses block.
+ghost use Rattle.std.specs.Prelude.{◌≡◌, ◌+◌, ℕ, Some, None, if◌then◌else◌, nat_lt};
+ghost use Rattle.std.specs.Option.{option_map};
+ghost use Rattle.sd_rules.specs.Logins as logins;
+ghost use Rattle.sd_creds.specs.Seen as seen;
+
+use sd_rules::{Settings, Verdict};
+
+/// The seconds of a day.
+const DAY: u64 = 86400;
+
+/// The seconds of a minute.
+const MINUTE: u64 = 60;
+
+/// An online login: the number and the moment of its entry, and whether it carries a hash.
+#[derive(Clone, Copy, Debug)]
+pub struct Login {
+    pub number: u64,
+    pub moment: u64,
+    pub hashed: bool,
+}
+
+/// Whether a moment is before the end of a span of seconds.
+fn is_within(begin: u64, span: u64, t: u64) -> bool
+    ensures { result ≡ nat_lt t (begin + span) }
+{
+    t < begin || t - begin < span
+}
+
+/// The login, where it carries a hash.
+pub fn only_hashed(login: Option<Login>) -> Option<Login>
+    ensures { option_map seen.login result ≡ logins.only_hashed (option_map seen.login login) }
+{
+    match login {
+        Some(l) => { if l.hashed { Some(l) } else { None } }
+        None => None,
+    }
+}
+
+/// The last moment at which the hash of a login may be used.
+fn expiry_of(settings: &Settings, login: Login) -> u128
+    ensures { result ≡ logins.expiry_of settings.now (seen.login login) }
+{
+    u128::from(login.moment) + u128::from(DAY * u64::from(settings.expiration_days))
+}
+
+/// The expiry of a login's hash, where it has passed.
+pub fn expired(settings: &Settings, t: u64, login: Login) -> Option<u64>
+    ensures { result ≡ (if logins.is_expired settings.now t (seen.login login) then Some (logins.expiry_of settings.now (seen.login login)) else None) }
+{
+    let expiry = expiry_of(settings, login);
+    if settings.expiration_days != 0 && expiry < u128::from(t) {
+        Some(expiry as u64)
+    } else {
+        None
+    }
+}
+
+/// Whether so many wrong guesses block.
+pub fn is_at_limit(settings: &Settings, wrong: u64) -> bool
+    ensures { result ≡ logins.is_at_limit settings.now wrong }
+{
+    if settings.attempts == 0 || wrong == 0 {
+        return false;
+    }
+    wrong % u64::from(settings.attempts) == 0
+}
+
+/// The block by a wrong guess at a moment, where it stands at t.
+pub fn block_until(settings: &Settings, t: u64, wrong: Option<u64>) -> Option<Verdict>
+    ensures { result ≡ logins.block_until settings.now t wrong }
+{
+    let wrong = wrong?;
+    if settings.delay_minutes == 0 {
+        return Some(Verdict::Blocked(None));
+    }
+    let delay = MINUTE * u64::from(settings.delay_minutes);
+    if is_within(wrong, delay, t) {
+        Some(Verdict::Blocked(Some(wrong.saturating_add(delay))))
+    } else {
+        None
+    }
+}
+
+/// The verdict where nothing but the hash that was compared and the guess count.
+pub fn verdict_by_guess(login: Login, named: u64, right: bool) -> Verdict
+    ensures { result ≡ logins.verdict_by_guess (seen.login login) named right }
+{
+    if login.number != named {
+        Verdict::Stale(login.number)
+    } else if right {
+        Verdict::Accepted
+    } else {
+        Verdict::Wrong
+    }
+}
+
+/// The same, where no block stands.
+pub fn verdict_unless_blocked(
+    block: Option<Verdict>,
+    login: Login,
+    named: u64,
+    right: bool,
+) -> Verdict
+    ensures { result ≡ logins.verdict_unless_blocked block (seen.login login) named right }
+{
+    match block {
+        Some(verdict) => verdict,
+        None => verdict_by_guess(login, named, right),
+    }
+}
+
+/// The entry of the login whose hash a login may use while the directory can be reached.
+pub fn still_cached(settings: &Settings, t: u64, login: Option<Login>) -> Option<u64>
+    ensures { result ≡ logins.still_cached settings.now t (option_map seen.login login) }
+{
+    match login {
+        Some(l) => {
+            if is_within(l.moment, u64::from(settings.cached_auth_timeout), t) {
+                Some(l.number)
+            } else {
+                None
+            }
+        }
+        None => None,
+    }
+}
+
+/// The verdict on a try by the last online login.
+pub fn verdict_by_login(
+    settings: &Settings,
+    t: u64,
+    login: Option<Login>,
+    named: u64,
+    right: bool,
+) -> Verdict
+    ensures { result ≡ logins.verdict_by_login settings.now t (option_map seen.login login) named right }
+{
+    match login {
+        Some(l) => {
+            let span = u64::from(settings.cached_auth_timeout);
+            if is_within(l.moment, span, t) {
+                verdict_by_guess(l, named, right)
+            } else {
+                Verdict::Expired(l.moment.saturating_add(span))
+            }
+        }
+        None => Verdict::Unknown,
+    }
+}

@@ -1,0 +1,86 @@
+// What a mark says of a login by a stored hash.
+ghost use Rattle.std.specs.Prelude.{◌≡◌};
+ghost use Rattle.std.specs.Option.{option_map};
+ghost use Rattle.sd_creds.specs.Marks as marked;
+ghost use Rattle.sd_creds.specs.Seen as seen;
+
+use crate::limits::{
+    Login, block_until, expired, is_at_limit, only_hashed, still_cached, verdict_by_login,
+    verdict_unless_blocked,
+};
+use crate::marks::Mark;
+use sd_rules::{Settings, Verdict};
+
+fn usable_hash(settings: &Settings, mark: &Mark) -> Option<Login>
+    ensures { option_map seen.login result ≡ marked.usable_hash settings.now mark.now }
+{
+    if settings.cache_credentials {
+        mark.hash
+    } else {
+        None
+    }
+}
+
+fn block_of(settings: &Settings, t: u64, mark: &Mark) -> Option<Verdict>
+    ensures { result ≡ marked.block_of settings.now t mark.now }
+{
+    if is_at_limit(settings, mark.wrong_count) {
+        block_until(settings, t, mark.last_wrong)
+    } else {
+        None
+    }
+}
+
+fn verdict_by_hash(
+    settings: &Settings,
+    t: u64,
+    mark: &Mark,
+    login: Option<Login>,
+    named: u64,
+    right: bool,
+) -> Verdict
+    ensures { result ≡ marked.verdict_by_hash settings.now t mark.now (option_map seen.login login) named right }
+{
+    match login {
+        Some(l) => match expired(settings, t, l) {
+            Some(expiry) => Verdict::Expired(expiry),
+            None => verdict_unless_blocked(block_of(settings, t, mark), l, named, right),
+        },
+        None => Verdict::Unknown,
+    }
+}
+
+/// The verdict on a guess.
+pub fn verdict_of(settings: &Settings, t: u64, mark: &Mark, named: u64, right: bool) -> Verdict
+    ensures { result ≡ marked.verdict_of settings.now t mark.now named right }
+{
+    verdict_by_hash(settings, t, mark, usable_hash(settings, mark), named, right)
+}
+
+/// The last online login, where it carries a hash and hashes are used.
+fn usable_login(settings: &Settings, mark: &Mark) -> Option<Login>
+    ensures { option_map seen.login result ≡ marked.usable_login settings.now mark.now }
+{
+    if settings.cache_credentials {
+        only_hashed(mark.login)
+    } else {
+        None
+    }
+}
+
+/// The entry of the login whose hash a login may use while the directory can be reached.
+pub fn cached_login(settings: &Settings, t: u64, mark: &Mark) -> Option<u64>
+    ensures { result ≡ marked.cached_login settings.now t mark.now }
+{
+    if settings.cached_auth_timeout == 0 {
+        return None;
+    }
+    still_cached(settings, t, usable_login(settings, mark))
+}
+
+/// The verdict on a try.
+pub fn verdict_of_try(settings: &Settings, t: u64, mark: &Mark, named: u64, right: bool) -> Verdict
+    ensures { result ≡ marked.verdict_of_try settings.now t mark.now named right }
+{
+    verdict_by_login(settings, t, usable_login(settings, mark), named, right)
+}
