@@ -2,13 +2,13 @@
 use Rattle.std.proofs.Common.{◌≡◌, ℕ, suc, ◌+◌, ◌<◌, List, [], ◌∷◌, ◌++◌, length, take, Option, Some, None, Result, Ok, Err, refl, sym, ap, subst, ◌∙◌, add-one, arith, inl, inr, ◌⊎◌}
 use Rattle.std.specs.Prelude.{IfOk}
 use Rattle.std.specs.Option.{option_map_or}
-use Rattle.std.specs.Prelude.{◌*◌}
+use Rattle.std.specs.Prelude.{◌*◌, ◌↔◌, Bool, true, is_ok}
 use Rattle.std.specs.Char.{digit_value}
 use Rattle.sd_dn.specs.declared.Pair.{Pair}
 use Rattle.sd_dn.specs.declared.DnFault.{DnFault}
 use Rattle.sd_dn.specs.declared.DnFault.TheVariants as faults
 use Rattle.sd_dn.specs.Grammar.{Spells, IsFirstBad, Reads}
-use Rattle.sd_dn.specs.Reading.{Progress, Start, BeforeType, InType, BeforeEquals, InValue, InEscape, InHex, step, ending, run, Gives, pair_made}
+use Rattle.sd_dn.specs.Reading.{Progress, Start, BeforeType, InType, BeforeEquals, InValue, InEscape, InHex, step, ending, run, is_dn, Gives, pair_made}
 use Rattle.sd_dn.proofs.Complete.{is_read}
 use Rattle.sd_dn.proofs.Sound.{After, step_after, is_spelled}
 
@@ -99,6 +99,18 @@ ok_is x y e = cc
 
 pub one_meaning : (text : List ℕ) (a b : List (List Pair)) → Spells text a → Spells text b → a ≡ b
 one_meaning text a b p q = ok_is a b (sym (is_read text a p) ∙ is_read text b q)
+
+-- whether a text is a DN's is whether it spells one
+test_true : (text : List ℕ) (r : Result (List (List Pair)) ℕ) → run (Start [] []) text ≡ r → is_ok r ≡ true → (dn : List (List Pair)) × Spells text dn
+test_true text (Ok dn) e h = (dn, is_spelled text dn e)
+test_true text (Err left) e h = absurd cc
+
+pub is_dn_exact : (text : List ℕ) (is : Bool) → is ≡ is_dn text → (is ≡ true) ↔ ((dn : List (List Pair)) × Spells text dn)
+is_dn_exact text is e = (λ h. test_true text (run (Start [] []) text) refl (sym e ∙ h), λ s. e ∙ ap (λ (r : Result (List (List Pair)) ℕ). is_ok r) (is_read text s.0 s.1))
+
+pub test_exact : {E : Type 0} (text : List ℕ) (r : Result Bool E) → IfOk r (λ is. is ≡ is_dn text) → IfOk r (λ is. (is ≡ true) ↔ ((dn : List (List Pair)) × Spells text dn))
+test_exact text (Ok is) e = is_dn_exact text is e
+test_exact text (Err e) h = tt
 
 -- ---- what an answer says
 

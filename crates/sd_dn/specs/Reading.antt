@@ -1,5 +1,5 @@
 -- Reading from left to right, one byte after the other.
-use Rattle.std.specs.Prelude.{◌≡◌, ℕ, suc, ◌+◌, Bool, ◌&&◌, ◌||◌, ◌==◌, if◌then◌else◌, List, [], ◌∷◌, ◌++◌, length, take, Option, Some, None, Result, Ok, Err, nat_lt}
+use Rattle.std.specs.Prelude.{◌≡◌, ℕ, suc, ◌+◌, Bool, ◌&&◌, ◌||◌, ◌==◌, if◌then◌else◌, List, [], ◌∷◌, ◌++◌, length, take, Option, Some, None, Result, Ok, Err, is_ok, nat_lt}
 use Rattle.std.specs.Option.{option_map_or}
 use Rattle.std.specs.Char.{is_ascii_hexdigit}
 use Rattle.sd_dn.specs.declared.Pair.{Pair}
@@ -87,6 +87,10 @@ ending (InHex dn rdn name value high) = None
 abbrev pub run : Progress → List ℕ → Result (List (List Pair)) ℕ
 run s [] = option_map_or (λ dn. Ok dn) (ending s) (Err 0)
 run s (b ∷ bs) = option_map_or (λ next. run next bs) (step s b) (Err (suc (length bs)))
+
+-- whether a text is a DN's
+abbrev pub is_dn : List ℕ → Bool
+is_dn text = is_ok (run (Start [] []) text)
 
 -- ---- what the code keeps
 

@@ -12,7 +12,7 @@ pub mod read;
 mod tests;
 
 pub use compare::{Leaf, dn_equal, is_at_or_under, is_under, leaf_under};
-pub use read::read_dn;
+pub use read::{is_dn, read_dn};
 
 /// An attribute's type and its value, of which nothing is escaped.
 #[derive(Drop, Debug)]

@@ -1,5 +1,5 @@
 // Reading a DN from its text.
-ghost use Rattle.std.specs.Prelude.{◌≡◌, ℕ, Bool, List, [], length, IfOk, OnOk, Err, ◌≢◌};
+ghost use Rattle.std.specs.Prelude.{◌↔◌, IsTrue, ◌≡◌, ℕ, Bool, List, [], length, IfOk, OnOk, Err, ◌≢◌};
 ghost use Rattle.sd_dn.specs.Grammar.{Spells, Reads, IsFirstBad};
 ghost use Rattle.sd_dn.specs.Reading as reading;
 ghost use Rattle.sd_dn.specs.declared.Pair.{Pair};
@@ -266,6 +266,24 @@ pub fn read_dn(alloc: Global, text: &[u8]) -> Result<Dn, DnFault>
     ensures bad { (place : ℕ) → result ≡ Err (DnFault.BadDn place) → IsFirstBad text.now place }
 {
     read_text(alloc, text)
+}
+
+/// Whether a text is a DN's.
+pub fn is_dn(alloc: Global, text: &[u8]) -> Result<bool, Memory>
+    ensures test { IfOk result (λ is. is ≡ reading.is_dn text.now) }
+    ensures exact { IfOk result (λ is. IsTrue is ↔ ((dn : List (List Pair)) × Spells text.now dn)) }
+{
+    tested(alloc, text)
+}
+
+fn tested(alloc: Global, text: &[u8]) -> Result<bool, Memory>
+    ensures { IfOk result (λ is. is ≡ reading.is_dn text.now) }
+{
+    match read_text(alloc, text) {
+        Ok(_) => Ok(true),
+        Err(DnFault::BadDn(_)) => Ok(false),
+        Err(DnFault::Memory) => Err(Memory),
+    }
 }
 
 /// A text spells one DN at most.

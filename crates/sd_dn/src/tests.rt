@@ -1,5 +1,5 @@
 // Texts and the DNs that they spell, from RFC 4514 and from the rules of the profile.
-use crate::{Dn, DnFault, dn_equal, is_at_or_under, is_under, leaf_under, read_dn};
+use crate::{Dn, DnFault, dn_equal, is_at_or_under, is_dn, is_under, leaf_under, read_dn};
 use sd_base::{Copied, Memory};
 use std::alloc::Global;
 use std::test::Fail;
@@ -55,6 +55,7 @@ fn reads(rt: HostRuntime) -> Result<(), Fail> {
             want.as_bytes(),
             "at {text}"
         );
+        assert!(rt; is_dn(rt.alloc(), text.as_bytes())?, "at {text}");
         let copied = dn.copy()?;
         assert!(rt; dn_equal(&copied, &dn), "at {text}");
     }
@@ -83,6 +84,7 @@ fn refuses(rt: HostRuntime) -> Result<(), Fail> {
         ("1.3.6.1.4.1.1466.0=#04024869", 19),
     ];
     for (text, place) in cases {
+        assert!(rt; !is_dn(rt.alloc(), text.as_bytes())?, "at {text}");
         match read_dn(rt.alloc(), text.as_bytes()) {
             Ok(_) => assert!(rt; false, "read {text}"),
             Err(fault) => assert_eq!(rt; fault, DnFault::BadDn(place), "at {text}"),
