@@ -1,5 +1,5 @@
 -- How a turn begins and ends.
-use Rattle.std.proofs.Common.{◌≡◌, ℕ, ◌+◌, ◌≤◌, ◌≢◌, true, false, List, [], ◌∷◌, ◌++◌, map, length, get_or, sym, refl, ap, ◌∙◌, subst, arith, le_refl, Option, Some, None}
+use Rattle.std.proofs.Common.{◌≡◌, ℕ, ◌+◌, ◌≤◌, ◌≢◌, true, false, List, [], ◌∷◌, map, length, get_or, sym, refl, ap, ◌∙◌, subst, arith, le_refl, Option, Some, None}
 use mathlib.Core.Logic.{dite}
 use mathlib.Core.Option.{some, some-injective}
 use native.Mathlib.Decide.{ℕ_discrete}
@@ -9,7 +9,7 @@ use Rattle.atomic_table.proofs.Lists.{at_last, at_map}
 use Rattle.sd_turn.specs.declared.chronicle.Chronicle.{Ghosts}
 use Rattle.sd_turn.specs.declared.view.History.{History}
 use Rattle.sd_turn.specs.declared.view.View.{View}
-use Rattle.sd_turn.specs.declared.view.Stage.TheVariants.{Free, Holds}
+use Rattle.sd_turn.specs.declared.view.Stage.TheVariants.{Free}
 use Rattle.sd_turn.specs.Counts.{occurrences, once_between, AreAllBetween}
 use Rattle.sd_turn.specs.Views.{lives, member, is_held, newcomer}
 use Rattle.sd_turn.specs.Rule.{KnowsStage, Knows, numbers}

@@ -1,5 +1,5 @@
 -- The seat that holds the turn gives an entry its number.
-use Rattle.std.proofs.Common.{◌≡◌, ℕ, ◌+◌, ◌%◌, ◌<◌, List, [], ◌∷◌, ◌++◌, map, length, get_or, set, sym, refl, ap, ◌∙◌, subst, arith, length-set, get_or-set_other, get_or-set_same, sum_by, Option, Some}
+use Rattle.std.proofs.Common.{◌≡◌, ℕ, ◌+◌, ◌%◌, ◌<◌, List, [], ◌∷◌, ◌++◌, map, get_or, set, sym, refl, ap, ◌∙◌, subst, arith, length-set, get_or-set_other, get_or-set_same, sum_by, Some}
 use Rattle.std.proofs.Math.Nat.{mod-eq_of_lt}
 use mathlib.Core.Option.{none, some}
 use lib.ListN.{get_elem?}
@@ -9,6 +9,7 @@ use Rattle.sd_turn.specs.declared.view.History.{History}
 use Rattle.sd_turn.specs.declared.view.View.{View}
 use Rattle.sd_turn.specs.declared.view.Stage.TheVariants.{Holds}
 use Rattle.sd_turn.specs.Counts.{occurrences, once_between}
+use Rattle.sd_turn.specs.Histories.{with_entry}
 use Rattle.sd_turn.specs.Names.{Family}
 use Rattle.sd_turn.specs.Views.{lives, member, taken_in, now_in, place_in}
 use Rattle.sd_turn.specs.Rule.{KnowsStage, Knows, numbers}
@@ -38,7 +39,7 @@ module _ {V E C : Type 0} (chronicle : Ghosts V E C) (opening : V) where
       let turn : ℕ = get_or s.words 0 0 in
       let count : ℕ = get_or s.words 1 0 in
       let v : View E C = me.0 in
-      let later : History E = record { entries = now.entries ++ e ∷ []; next = now.next + 1 } in
+      let later : History E = with_entry now e in
       let w : View E C = record v { mine = v.mine ++ e ∷ []; stage = Holds taken k later } in
       let own = knows_under chronicle opening r.before r.last turn count r.holder id v d sets (r.each_seat id v at) in
       let held = subst (KnowsStage chronicle (setting opening) r.before r.last turn count r.holder id) stage own.2 in
@@ -63,7 +64,7 @@ module _ {V E C : Type 0} (chronicle : Ghosts V E C) (opening : V) where
           family = subst Family (sym (map_same member s.views id v w at refl)) r.family;
         },
         λ taken' now' k' stage'. let both = sym stage ∙ stage' in let same : now ≡ now' = ap (now_in now) both in (
-          (λ i. (record v { mine = v.mine ++ e ∷ []; stage = Holds (ap (taken_in taken) both i) (ap place_in both i) (record { entries = (same i).entries ++ e ∷ []; next = (same i).next + 1 }) }, me.1)),
+          (λ i. (record v { mine = v.mine ++ e ∷ []; stage = Holds (ap (taken_in taken) both i) (ap place_in both i) (with_entry (same i) e) }, me.1)),
           ap (λ (z : History E). z.next) (sym same) ∙ sym number_next,
         ),
       )

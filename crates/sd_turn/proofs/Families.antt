@@ -60,10 +60,18 @@ module _ (members : List Member) (family : Family members) (place : ℕ) (m : Me
   was_or_born : (i : ℕ) (x : Member) → get_elem? after i ≡ some x → Was i x ⊎ IsBorn i x
   was_or_born i x e = ⊎_elim
       (λ (o : get_elem? (set members place parent) i ≡ some x). ⊎_elim
-      (λ (t : (i ≡ place) × (parent ≡ x)). inl (subst (Was i) t.1 (m, ap (get_elem? members) t.0 ∙ at, refl, refl, omega arith, (λ _. refl), λ name h. ⊎_elim
-      (λ (a : Contains m.out name). inl a)
-      (λ (b : Contains (child ∷ []) name). inr (sym (contains_only child name b), t.0))
-      (Contains-append_cases m.out (child ∷ []) name h))))
+      (λ (t : (i ≡ place) × (parent ≡ x)). inl (subst (Was i) t.1 (
+        m,
+        ap (get_elem? members) t.0 ∙ at,
+        refl,
+        refl,
+        omega arith,
+        (λ _. refl),
+        λ name h. ⊎_elim
+            (λ (a : Contains m.out name). inl a)
+            (λ (b : Contains (child ∷ []) name). inr (sym (contains_only child name b), t.0))
+            (Contains-append_cases m.out (child ∷ []) name h),
+      )))
       (λ (t : (i ≢ place) × (get_elem? members i ≡ some x)). inl (x, t.1, refl, refl, le_refl x.splits, (λ e. absurd (t.0 e)), λ name h. inl h))
       (at_set members place i parent x o))
       (λ (n : IsBorn i x). inr n)
@@ -142,10 +150,18 @@ module _ (members : List Member) (family : Family members) (place other : ℕ) (
   stood i x e hx = ⊎_elim
       (λ (t : (i ≡ other) × (gone ≡ x)). let off : x.lives ≡ false = ap (λ z. z.lives) (sym t.1) ∙ dead in cc)
       (λ (t : (i ≢ other) × (get_elem? (set members place both) i ≡ some x)). ⊎_elim
-      (λ (u : (i ≡ place) × (both ≡ x)). subst (Stood i) u.1 (m, ap (get_elem? members) u.0 ∙ at, t.0, refl, refl, refl, λ name h. ⊎_elim
-      (λ (a : Contains (without n.name m.out) name). inl (contains_from_filter (λ o. not (pointwise ◌==◌ n.name o)) m.out name a))
-      (λ (b : Contains n.out name). inr (u.0, b))
-      (Contains-append_cases (without n.name m.out) n.out name h)))
+      (λ (u : (i ≡ place) × (both ≡ x)). subst (Stood i) u.1 (
+        m,
+        ap (get_elem? members) u.0 ∙ at,
+        t.0,
+        refl,
+        refl,
+        refl,
+        λ name h. ⊎_elim
+            (λ (a : Contains (without n.name m.out) name). inl (contains_from_filter (λ o. not (pointwise ◌==◌ n.name o)) m.out name a))
+            (λ (b : Contains n.out name). inr (u.0, b))
+            (Contains-append_cases (without n.name m.out) n.out name h),
+      ))
       (λ (u : (i ≢ place) × (get_elem? members i ≡ some x)). (x, u.1, t.0, refl, refl, refl, λ name h. inl h))
       (at_set members place i both x t.1))
       (at_set (set members place both) other i gone x e)

@@ -1,5 +1,5 @@
 -- A seat is joined into another, which then learns the later of the two fronts.
-use Rattle.std.proofs.Common.{◌≡◌, ◌⊎◌, ℕ, ◌+◌, ◌≤◌, ◌<◌, max, true, [], ◌++◌, map, get_or, set, sym, refl, ap, ◌∙◌, subst, inl, inr, arith, sum_by, Some}
+use Rattle.std.proofs.Common.{◌≡◌, ◌⊎◌, ℕ, ◌+◌, ◌≤◌, max, true, ◌++◌, map, get_or, set, sym, refl, ap, ◌∙◌, subst, inl, inr, arith, sum_by, Some}
 use Rattle.std.proofs.Math.Nat.{lt_of_not-le}
 use mathlib.Core.Logic.{dite}
 use mathlib.Core.Option.{none, some}
@@ -13,7 +13,7 @@ use Rattle.sd_turn.specs.declared.chronicle.Chronicle.{Ghosts}
 use Rattle.sd_turn.specs.declared.view.History.{History}
 use Rattle.sd_turn.specs.declared.view.View.{View}
 use Rattle.sd_turn.specs.declared.view.Stage.{Stage}
-use Rattle.sd_turn.specs.declared.view.Stage.TheVariants.{Free, Holds, Met}
+use Rattle.sd_turn.specs.declared.view.Stage.TheVariants.{Free, Met}
 use Rattle.sd_turn.specs.Counts.{occurrences, once_between, AreDistinct}
 use Rattle.sd_turn.specs.Names.{Family}
 use Rattle.sd_turn.specs.Views.{lives, member, is_held, joined, spent}

@@ -6,4 +6,5 @@ pub mod Counting
 pub mod Giving
 pub mod Splitting
 pub mod Joining
+pub mod Looking
 pub mod Closing

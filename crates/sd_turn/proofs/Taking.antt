@@ -1,10 +1,10 @@
 -- A seat tries to take the turn.
-use Rattle.std.proofs.Common.{◌≡◌, ℕ, ◌+◌, ◌≢◌, eqb, [], ◌∷◌, map, length, get_or, set, sym, refl, ap, ◌∙◌, subst, arith, length-set, get_or-set_other, get_or-set_same, Option, Some}
+use Rattle.std.proofs.Common.{◌≡◌, ℕ, ◌+◌, ◌≢◌, eqb, length, get_or, set, sym, refl, ap, ◌∙◌, subst, arith, length-set, get_or-set_other, get_or-set_same, Some}
 use mathlib.Core.Option.{none, some}
 use lib.ListN.{get_elem?}
 use lib.Seq.{set-get_or}
 use prog.Atomic.{either}
-use Rattle.atomic_table.specs.Table.{step, keeps, takes, Act, Allows}
+use Rattle.atomic_table.specs.Table.{step, keeps, takes, Allows}
 use Rattle.atomic_table.proofs.Lists.{at_last, exchanged}
 use Rattle.sd_turn.specs.declared.chronicle.Chronicle.{Ghosts}
 use Rattle.sd_turn.specs.declared.view.View.{View}

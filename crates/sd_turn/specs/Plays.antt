@@ -1,11 +1,12 @@
 -- What each step tells the seat that makes it.
-use Rattle.std.specs.Prelude.{◌≡◌, ◌≢◌, ◌⊎◌, ℕ, ◌+◌, max, List, [], ◌∷◌, ◌++◌, map, Option, Some}
+use Rattle.std.specs.Prelude.{◌≡◌, ◌≢◌, ◌⊎◌, ℕ, ◌+◌, ◌≤◌, max, List, [], ◌∷◌, ◌++◌, map, Option, Some}
 use Rattle.atomic_table.specs.Table.{Me, Step}
 use Rattle.sd_turn.specs.declared.chronicle.Chronicle.{Ghosts}
 use Rattle.sd_turn.specs.declared.view.History.{History}
 use Rattle.sd_turn.specs.declared.view.View.{View}
 use Rattle.sd_turn.specs.declared.view.Stage.TheVariants.{Free, Holds, Met}
 use Rattle.sd_turn.specs.Counts.{AreDistinct}
+use Rattle.sd_turn.specs.Histories.{with_entries}
 
 module _ {V E C : Type 0} (chronicle : Ghosts V E C) where
   open chronicle use {setting, history, number, follows, fits}
@@ -30,12 +31,16 @@ module _ {V E C : Type 0} (chronicle : Ghosts V E C) where
   -- The entries are the seat's own, and the first of them has the number behind the one found.
   abbrev pub counted : List E → TurnStep → TurnSeat → ℕ → TurnSeat → Type 0
   counted entries s old found new = (taken now : History E) (place : ℕ) → old.0.stage ≡ Holds taken place now
-      → (new ≡ (record old.0 { mine = old.0.mine ++ entries; stage = Holds taken place (record { entries = now.entries ++ entries; next = now.next + 1 }) }, old.1)) × (now.next ≡ found + 1)
+      → (new ≡ (record old.0 { mine = old.0.mine ++ entries; stage = Holds taken place (with_entries now entries) }, old.1)) × (now.next ≡ found + 1)
 
   -- The front is the history of the value that was given, and follows the front before.
   abbrev pub gave : TurnStep → TurnSeat → ℕ → TurnSeat → Type 0
   gave s old found new = (taken now : History E) (place : ℕ) (value : V) → old.0.stage ≡ Holds taken place now → old.1 ≡ (0, Some value) ∷ []
       → (new ≡ (record old.0 { front = history value; place = place + 1; stage = Free }, [])) × ((c : C) → old.0.setting ≡ Some c → follows c old.0.front (history value))
+
+  -- The seat has seen the number of the last entry, which is no less than that of the last in its front.
+  abbrev pub looked : TurnStep → TurnSeat → ℕ → TurnSeat → Type 0
+  looked s old found new = (new ≡ (record old.0 { seen = found }, old.1)) × ((c : C) → old.0.setting ≡ Some c → old.0.front.next ≤ found + 1)
 
   -- The front is the later of the two, which follows both.
   abbrev pub Settles : C → History E → TurnSeat → TurnSeat → Type 0

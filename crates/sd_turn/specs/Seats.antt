@@ -44,6 +44,10 @@ module _ {V E C : Type 0} {g : Ghosts V E C} where
   abbrev pub found : Seat V E C g → ℕ
   found s = s.seat.me.0.found
 
+  -- the number of the last entry, as the last look at the count word found it
+  abbrev pub seen : Seat V E C g → ℕ
+  seen s = s.seat.me.0.seen
+
   -- The seat is one of this turn.
   abbrev pub IsOwn : Turn V E C → Seat V E C g → Type 0
   IsOwn t s = (s.seat.table_id ≡ t.table.shared.table_id) × (s.seat.me.0.setting ≡ Some (g.setting (opening t)))
@@ -62,9 +66,21 @@ module _ {V E C : Type 0} {g : Ghosts V E C} where
   abbrev pub history_now : Seat V E C g → History E
   history_now s = now_in s.seat.me.0.front s.seat.me.0.stage
 
+  -- The seat holds the turn, took this history, and appended nothing yet.
+  abbrev pub HasTaken : Seat V E C g → History E → Type 0
+  HasTaken s h = HoldsTurn s × (history_taken s ≡ h) × (history_now s ≡ h)
+
   -- Name, number of splits and list of seats out are the same.
   abbrev pub IsSameSeat : Seat V E C g → Seat V E C g → Type 0
   IsSameSeat old new = (name new ≡ name old) × (splits new ≡ splits old) × (out new ≡ out old)
+
+  -- The seat did not try to take the turn in between.
+  abbrev pub SameTries : Seat V E C g → Seat V E C g → Type 0
+  SameTries old new = (takes new ≡ takes old) × (found new ≡ found old)
+
+  -- The seat looked at the count word, and nothing else of it changed.
+  abbrev pub HasLooked : Seat V E C g → Seat V E C g → ℕ → Type 0
+  HasLooked old new count = new.seat.me ≡ (record (view_of old) { seen = count }, old.seat.me.1)
 
   -- The seat is the first of its turn and has done nothing yet.
   abbrev pub IsFirst : Seat V E C g → Type 0
@@ -77,4 +93,4 @@ module _ {V E C : Type 0} {g : Ghosts V E C} where
   -- The other seat was joined into the old one. Of the fronts this says nothing.
   abbrev pub IsJoined : Seat V E C g → Seat V E C g → Seat V E C g → Type 0
   IsJoined old other new = (name new ≡ name old) × (splits new ≡ splits old) × (out new ≡ without (name other) (out old) ++ out other)
-      × (mine new ≡ mine old ++ mine other) × (takes new ≡ takes old) × (found new ≡ found old)
+      × (mine new ≡ mine old ++ mine other) × SameTries old new

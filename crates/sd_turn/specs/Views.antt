@@ -1,5 +1,5 @@
 -- What the steps make of what a seat knows.
-use Rattle.std.specs.Prelude.{ℕ, ◌+◌, Bool, true, false, List, [], ◌∷◌, ◌++◌, Option, Some, None}
+use Rattle.std.specs.Prelude.{ℕ, ◌+◌, Bool, true, false, [], ◌∷◌, ◌++◌, Option, Some, None}
 use Rattle.sd_turn.specs.declared.chronicle.Chronicle.{Ghosts}
 use Rattle.sd_turn.specs.declared.view.History.{History}
 use Rattle.sd_turn.specs.declared.view.View.{View}
@@ -42,7 +42,7 @@ module _ {E C : Type 0} where
 
   -- the seat that was split from it
   abbrev pub made_by_split : View E C → View E C
-  made_by_split v = record { setting = v.setting; name = child_name v.name v.splits; splits = 0; out = []; mine = []; front = v.front; place = v.place; takes = 0; found = 0; stage = Free }
+  made_by_split v = record { setting = v.setting; name = child_name v.name v.splits; splits = 0; out = []; mine = []; front = v.front; place = v.place; takes = 0; found = 0; seen = 0; stage = Free }
 
   -- the seat, after another was joined into it. A load then tells which of the two fronts is the later.
   abbrev pub joined : View E C → View E C → View E C
@@ -50,8 +50,8 @@ module _ {E C : Type 0} where
 
   -- what is left of the other
   abbrev pub spent : View E C
-  spent = record { setting = None; name = []; splits = 0; out = []; mine = []; front = record { entries = []; next = 0 }; place = 0; takes = 0; found = 0; stage = Free }
+  spent = record { setting = None; name = []; splits = 0; out = []; mine = []; front = record { entries = []; next = 0 }; place = 0; takes = 0; found = 0; seen = 0; stage = Free }
 
 -- the first seat of a turn that is made with a value
 abbrev pub newcomer : {V E C : Type 0} → Ghosts V E C → V → View E C
-newcomer chronicle value = record { setting = Some (chronicle.setting value); name = []; splits = 0; out = []; mine = []; front = chronicle.history value; place = 0; takes = 0; found = 0; stage = Free }
+newcomer chronicle value = record { setting = Some (chronicle.setting value); name = []; splits = 0; out = []; mine = []; front = chronicle.history value; place = 0; takes = 0; found = 0; seen = 0; stage = Free }

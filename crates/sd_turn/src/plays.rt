@@ -1,6 +1,6 @@
 //! What each step tells the seat that makes it.
 ghost use Rattle.std.specs.Prelude.{List, []};
-ghost use Rattle.sd_turn.specs.Plays.{took, counted, gave, settled};
+ghost use Rattle.sd_turn.specs.Plays.{took, counted, gave, looked, settled};
 
 use crate::chronicle::Chronicle;
 use crate::view::View;
@@ -29,8 +29,7 @@ pub(crate) struct Count<V, J> {
 }
 
 impl<V: Chronicle, J: Appended<V::Entry>> Play<Option<V>, View<V::Entry, V::Setting>>
-    for Count<V, J>
-{
+    for Count<V, J> {
     ghost then = { counted ⟦<V as Chronicle>⟧ J.entries };
 }
 
@@ -40,6 +39,14 @@ pub(crate) struct Give<V> {
 
 impl<V: Chronicle> Play<Option<V>, View<V::Entry, V::Setting>> for Give<V> {
     ghost then = { gave ⟦<V as Chronicle>⟧ };
+}
+
+pub(crate) struct Look<V> {
+    marker: PhantomData<V>,
+}
+
+impl<V: Chronicle> Play<Option<V>, View<V::Entry, V::Setting>> for Look<V> {
+    ghost then = { looked ⟦<V as Chronicle>⟧ };
 }
 
 pub(crate) struct Settle<V> {

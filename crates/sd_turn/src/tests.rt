@@ -1,7 +1,7 @@
 //! A list of numbers that threads append to by turns.
 ghost use Rattle.std.specs.Prelude.{◌≡◌, ℕ, ◌+◌, ◌<◌, ◌^◌, List, [], ◌∷◌, ◌++◌, map, IfOk, IfSome, IfNone};
 ghost use Rattle.sd_turn.specs.Counts.{AreAllBetween};
-ghost use Rattle.sd_turn.specs.Seats.{mine, history_taken, history_now, IsOwn, HoldsNoTurn, HoldsTurn, IsSameSeat};
+ghost use Rattle.sd_turn.specs.Seats.{mine, IsOwn, HoldsNoTurn, HasTaken, IsSameSeat};
 ghost use Rattle.std.proofs.Common.{sym, ap, ◌∙◌, append_assoc, append-nil};
 
 use crate::{Busy, Chronicle, Held, Seat, TAKEN, Turn, TurnHeld};
@@ -72,7 +72,7 @@ impl Numbers {
 /// Appends the next number to a held value, and gives the turn back.
 fn append(turn: &Turn<Numbers>, seat: &mut Seat<Numbers>, mut held: Held<Numbers>) -> Option<u64>
     requires own { IsOwn turn.now seat.old }
-    requires holds { HoldsTurn seat.old × (history_taken seat.old ≡ ⟦<Numbers as Chronicle>⟧.history held.value) × (history_now seat.old ≡ ⟦<Numbers as Chronicle>⟧.history held.value) }
+    requires holds { HasTaken seat.old (⟦<Numbers as Chronicle>⟧.history held.value) }
     ensures own { IsOwn turn.now seat.new × HoldsNoTurn seat.new × IsSameSeat seat.old seat.new }
     ensures some { IfSome result (λ n. mine seat.new ≡ mine seat.old ++ n ∷ []) }
     ensures none { IfNone result (mine seat.new ≡ mine seat.old) }
@@ -161,7 +161,7 @@ fn keep_and_append<R: Wait + Clock>(
     done: &AtomicBool,
 ) -> Seat<Numbers>
     requires own { IsOwn turn.now seat }
-    requires holds { HoldsTurn seat × (history_taken seat ≡ ⟦<Numbers as Chronicle>⟧.history held.value) × (history_now seat ≡ ⟦<Numbers as Chronicle>⟧.history held.value) }
+    requires holds { HasTaken seat (⟦<Numbers as Chronicle>⟧.history held.value) }
     ensures own { IsOwn turn.now result × HoldsNoTurn result × IsSameSeat seat result }
 {
     thread::sleep(rt, Duration::from_millis(20));
@@ -207,7 +207,7 @@ fn wait_for_another<R: Threads + Wait + Clock + Sync>(
     let (mut first, second) = join(
         rt,
         || -> Seat<Numbers>
-            requires { IsOwn shared.now first × HoldsTurn first × (history_taken first ≡ record { entries = held.value.items.items; next = held.value.next }) × (history_now first ≡ record { entries = held.value.items.items; next = held.value.next }) }
+            requires { IsOwn shared.now first × HasTaken first (record { entries = held.value.items.items; next = held.value.next }) }
             ensures { IsOwn shared.entry.now result × HoldsNoTurn result × IsSameSeat first result }
         { keep_and_append(rt, shared, first, held, &done) },
         || -> Seat<Numbers>
@@ -223,7 +223,13 @@ fn wait_for_another<R: Threads + Wait + Clock + Sync>(
 fn take_waits_for_the_turn_and_rest_for_an_entry(rt: HostRuntime) -> Result<(), Fail> {
     let value = wait_for_another(&rt, rt.alloc())?;
     assert!(rt; value.items.len() >= 3);
-    assert!(rt; value.items.iter().zip(1u64..).all(|(number, at)| *number == at));
+    assert!(rt;
+        value
+            .items
+            .iter()
+            .zip(1u64..)
+            .all(|(number, at)| *number == at)
+    );
     Ok(())
 }
 
@@ -234,7 +240,9 @@ fn a_taken_turn_is_busy(rt: HostRuntime) -> Result<(), Fail> {
     let held = turn.try_take(&mut first).expect(&rt, "the turn is free");
     assert_eq!(rt; turn.try_take(&mut second).err(), Some(Busy));
     assert_eq!(rt; append(&turn, &mut first, held), Some(1));
-    let held = turn.try_take(&mut second).expect(&rt, "the turn was given back");
+    let held = turn
+        .try_take(&mut second)
+        .expect(&rt, "the turn was given back");
     assert_eq!(rt; append(&turn, &mut second, held), Some(2));
     turn.rest(&rt, &mut first);
     turn.join(&mut first, second);

@@ -2,7 +2,7 @@
 ghost use Rattle.std.specs.Prelude.{◌≡◌, ◌<◌};
 
 use crate::chronicle::Chronicle;
-use crate::plays::{Appended, Count, Give, JoinSeats, Settle, SplitSeat, Take};
+use crate::plays::{Appended, Count, Give, JoinSeats, Look, Settle, SplitSeat, Take};
 use crate::rule::TurnRule;
 use crate::view::View;
 use atomic_table::Table;
@@ -22,7 +22,9 @@ pub const TAKEN: u64 = 1;
 
 // The words of the table, and its slot.
 const TURN: usize = 0;
+
 const COUNT: usize = 1;
+
 const VALUE: usize = 0;
 
 /// How often `take` tries before it sleeps between two tries.
@@ -63,16 +65,19 @@ pub struct TurnHeld {
 }
 
 impl<V: Chronicle> Turn<V> {
-    ghost use Rattle.std.specs.Prelude.{◌≡◌, ◌≢◌, ◌⊎◌, ◌+◌, ◌<◌, ◌^◌, [], ◌∷◌, ◌++◌, map, Contains, IfOk, IfErr, IsOk};
+    ghost use Rattle.std.specs.Prelude.{◌≡◌, ◌≢◌, ◌⊎◌, ◌+◌, ◌<◌, ◌≤◌, ◌^◌, [], ◌∷◌, ◌++◌, map, Contains, IfOk, IfErr, IsOk, OnOk, OnErr};
     ghost use Rattle.sd_turn.specs.Counts.{AreDistinct, AreAllBetween};
-    ghost use Rattle.sd_turn.specs.Histories.{with_entry};
-    ghost use Rattle.sd_turn.specs.Seats.{opening, front, mine, name, out, takes, found, history_taken, history_now, IsOwn, HoldsNoTurn, HoldsTurn, IsSameSeat, IsFirst, IsSplit, IsJoined};
+    ghost use Rattle.sd_turn.specs.Histories.{with_entry, with_entries};
+    ghost use Rattle.sd_turn.specs.Seats.{opening, front, mine, name, out, takes, found, seen, history_taken, history_now, IsOwn, HoldsNoTurn, HoldsTurn, HasTaken, IsSameSeat, SameTries, HasLooked, IsFirst, IsSplit, IsJoined};
 
     /// The turn of a value, free, and its first seat, whose front is the history of the value.
     pub fn new(alloc: Global, value: V) -> Result<(Turn<V>, Seat<V>), Memory>
-        ensures own { IfOk result (λ made. IsOwn made.0 made.1 × HoldsNoTurn made.1) }
-        ensures value { IfOk result (λ made. (V.history (opening made.0) ≡ V.history value) × (V.setting (opening made.0) ≡ V.setting value)) }
-        ensures first { IfOk result (λ made. IsFirst made.1 × (front made.1 ≡ V.history value)) }
+        ensures own { IfOk result (λ made. IsOwn made.0 made.1) }
+        ensures free { IfOk result (λ made. HoldsNoTurn made.1) }
+        ensures history { IfOk result (λ made. V.history (opening made.0) ≡ V.history value) }
+        ensures setting { IfOk result (λ made. V.setting (opening made.0) ≡ V.setting value) }
+        ensures first { IfOk result (λ made. IsFirst made.1) }
+        ensures front { IfOk result (λ made. front made.1 ≡ V.history value) }
         ensures fits { IfOk result (λ made. V.fits (V.setting (opening made.0)) (front made.1)) }
     {
         let next = value.next_number();
@@ -90,12 +95,22 @@ impl<V: Chronicle> Turn<V> {
         requires own { IsOwn self.now seat.old }
         requires free { HoldsNoTurn seat.old }
         ensures own { IsOwn self.now seat.new }
-        ensures seat { IsSameSeat seat.old seat.new × (front seat.new ≡ front seat.old) × (mine seat.new ≡ mine seat.old) }
+        ensures same { IsSameSeat seat.old seat.new }
+        ensures front { front seat.new ≡ front seat.old }
+        ensures mine { mine seat.new ≡ mine seat.old }
         ensures step { takes seat.new ≡ takes seat.old + 1 }
-        ensures taken { IfOk result (λ held. (found seat.new ≡ FREE) × HoldsTurn seat.new × (history_taken seat.new ≡ V.history held.value) × (history_now seat.new ≡ V.history held.value)) }
-        ensures follows { IfOk result (λ held. (V.setting held.value ≡ V.setting (opening self.now)) × V.follows (V.setting (opening self.now)) (front seat.old) (V.history held.value)) }
-        ensures fits { IfOk result (λ held. V.fits (V.setting (opening self.now)) (V.history held.value)) }
-        ensures busy { IfErr result (λ _. (found seat.new ≢ FREE) × HoldsNoTurn seat.new) }
+
+        // The turn was free, and the value's history follows all that the seat knew.
+        ensures found { OnOk result (found seat.new ≡ FREE) }
+        ensures taken { IfOk result (λ held. HasTaken seat.new (V.history held.value)) }
+        ensures setting { IfOk result (λ held. V.setting held.value ≡ V.setting (opening self.now)) }
+        ensures follows { IfOk result (λ held.
+            V.follows (V.setting (opening self.now)) (front seat.old) (V.history held.value)) }
+        ensures fits { IfOk result (λ held.
+            V.fits (V.setting (opening self.now)) (V.history held.value)) }
+
+        // The turn was taken.
+        ensures busy { OnErr result ((found seat.new ≢ FREE) × HoldsNoTurn seat.new) }
     {
         let shared = &self.table.shared;
         if shared.compare_exchange::<Take<V>>(&mut seat.seat, TURN, FREE, TAKEN) != FREE {
@@ -107,15 +122,19 @@ impl<V: Chronicle> Turn<V> {
 
     /// Takes the turn, however often it has to try.
     ///
-    /// Between two tries it spins a little at first, and later sleeps: a microsecond, then longer up to a millisecond.
+    /// Between two tries it spins a little at first. Later it sleeps, for a microsecond and then longer, up to a millisecond.
     pub fn take<R: Wait>(&self, rt: &R, seat: &mut Seat<V>) -> Held<V>
         requires own { IsOwn self.now seat.old }
         requires free { HoldsNoTurn seat.old }
         ensures own { IsOwn self.now seat.new }
-        ensures seat { IsSameSeat seat.old seat.new × (front seat.new ≡ front seat.old) × (mine seat.new ≡ mine seat.old) }
+        ensures same { IsSameSeat seat.old seat.new }
+        ensures front { front seat.new ≡ front seat.old }
+        ensures mine { mine seat.new ≡ mine seat.old }
         ensures step { takes seat.old < takes seat.new }
-        ensures taken { (found seat.new ≡ FREE) × HoldsTurn seat.new × (history_taken seat.new ≡ V.history result.value) × (history_now seat.new ≡ V.history result.value) }
-        ensures follows { (V.setting result.value ≡ V.setting (opening self.now)) × V.follows (V.setting (opening self.now)) (front seat.old) (V.history result.value) }
+        ensures found { found seat.new ≡ FREE }
+        ensures taken { HasTaken seat.new (V.history result.value) }
+        ensures setting { V.setting result.value ≡ V.setting (opening self.now) }
+        ensures follows { V.follows (V.setting (opening self.now)) (front seat.old) (V.history result.value) }
         ensures fits { V.fits (V.setting (opening self.now)) (V.history result.value) }
     {
         let mut tries = 0u32;
@@ -136,39 +155,52 @@ impl<V: Chronicle> Turn<V> {
             return;
         }
         let nap = Duration::from_micros(1 << (tries - SPINS).min(10));
-        self.table
-            .shared
-            .park_timeout(rt, TURN, TAKEN as u32, nap);
+        self.table.shared.park_timeout(rt, TURN, TAKEN as u32, nap);
     }
 
     /// Gives the entry that was put behind the held history its number, and wakes one seat that rests.
     ///
-    /// Each entry that is put there has its own `append` before the next.
+    /// Each entry that is put there has an `append` of its own, before the next is put.
     pub fn append(&self, seat: &mut Seat<V>, held: &mut Held<V>)
         requires own { IsOwn self.now seat.old }
         requires holds { HoldsTurn seat.old }
-        requires grown { (e : V.Entry) × (V.history held.old.value ≡ with_entry (history_now seat.old) e) × (V.number e ≡ (history_now seat.old).next) }
+        requires grown { (e : V.Entry)
+            × (V.history held.old.value ≡ with_entry (history_now seat.old) e)
+            × (V.number e ≡ (history_now seat.old).next) }
         ensures own { IsOwn self.now seat.new }
-        ensures seat { IsSameSeat seat.old seat.new × (front seat.new ≡ front seat.old) × (takes seat.new ≡ takes seat.old) × (found seat.new ≡ found seat.old) }
-        ensures mine { (e : V.Entry) → V.history held.old.value ≡ with_entry (history_now seat.old) e → mine seat.new ≡ mine seat.old ++ e ∷ [] }
-        ensures holds { HoldsTurn seat.new × (history_taken seat.new ≡ history_taken seat.old) × (history_now seat.new ≡ V.history held.old.value) }
+        ensures same { IsSameSeat seat.old seat.new }
+        ensures tries { SameTries seat.old seat.new }
+        ensures front { front seat.new ≡ front seat.old }
+        ensures mine { (e : V.Entry)
+            → V.history held.old.value ≡ with_entry (history_now seat.old) e
+            → mine seat.new ≡ mine seat.old ++ e ∷ [] }
+        ensures holds { HoldsTurn seat.new }
+        ensures taken { history_taken seat.new ≡ history_taken seat.old }
+        ensures now { history_now seat.new ≡ V.history held.old.value }
         ensures held { held.new ≡ held.old }
     {
-        // The number after it exists, so the count word cannot wrap.
+        // The held value has a next number, so the count word does not wrap.
         held.value.next_number();
         self.count::<Brand>(seat, held);
         self.table.shared.wake_one(COUNT);
     }
 
-    // The entries that J has, one in number, become the seat's own.
+    // The entry that J has, the only one, becomes the seat's own. The proof of a call picks it from `_held`.
     fn count<J: Appended<V::Entry>>(&self, seat: &mut Seat<V>, _held: &Held<V>)
         requires own { IsOwn self.now seat.old }
         requires holds { HoldsTurn seat.old }
-        requires grown { (e : V.Entry) × (J.entries ≡ e ∷ []) × (V.number e ≡ (history_now seat.old).next) × ((history_now seat.old).next < 2 ^ 64) }
+        requires grown { (e : V.Entry)
+            × (J.entries ≡ e ∷ [])
+            × (V.number e ≡ (history_now seat.old).next)
+            × ((history_now seat.old).next < 2 ^ 64) }
         ensures own { IsOwn self.now seat.new }
-        ensures seat { IsSameSeat seat.old seat.new × (front seat.new ≡ front seat.old) × (takes seat.new ≡ takes seat.old) × (found seat.new ≡ found seat.old) }
+        ensures same { IsSameSeat seat.old seat.new }
+        ensures tries { SameTries seat.old seat.new }
+        ensures front { front seat.new ≡ front seat.old }
         ensures mine { mine seat.new ≡ mine seat.old ++ J.entries }
-        ensures holds { HoldsTurn seat.new × (history_taken seat.new ≡ history_taken seat.old) × (history_now seat.new ≡ record { entries = (history_now seat.old).entries ++ J.entries; next = (history_now seat.old).next + 1 }) }
+        ensures holds { HoldsTurn seat.new }
+        ensures taken { history_taken seat.new ≡ history_taken seat.old }
+        ensures now { history_now seat.new ≡ with_entries (history_now seat.old) J.entries }
     {
         self.table
             .shared
@@ -179,16 +211,17 @@ impl<V: Chronicle> Turn<V> {
     pub fn give(&self, seat: &mut Seat<V>, held: Held<V>)
         requires own { IsOwn self.now seat.old }
         requires holds { HoldsTurn seat.old }
+        requires setting { V.setting held.value ≡ V.setting (opening self.now) }
         requires follows { V.follows (V.setting (opening self.now)) (history_taken seat.old) (V.history held.value) }
         requires next { (V.history held.value).next ≡ (history_now seat.old).next }
-        requires setting { V.setting held.value ≡ V.setting (opening self.now) }
         ensures own { IsOwn self.now seat.new }
-        ensures seat { IsSameSeat seat.old seat.new × (mine seat.new ≡ mine seat.old) }
-        ensures takes { (takes seat.new ≡ takes seat.old) × (found seat.new ≡ found seat.old) }
-        ensures front { front seat.new ≡ V.history held.value }
-        ensures fits { V.fits (V.setting (opening self.now)) (front seat.new) }
-        ensures follows { V.follows (V.setting (opening self.now)) (front seat.old) (front seat.new) }
         ensures free { HoldsNoTurn seat.new }
+        ensures same { IsSameSeat seat.old seat.new }
+        ensures tries { SameTries seat.old seat.new }
+        ensures mine { mine seat.new ≡ mine seat.old }
+        ensures front { front seat.new ≡ V.history held.value }
+        ensures follows { V.follows (V.setting (opening self.now)) (front seat.old) (front seat.new) }
+        ensures fits { V.fits (V.setting (opening self.now)) (front seat.new) }
     {
         let shared = &self.table.shared;
         let next = held.value.next_number();
@@ -213,7 +246,7 @@ impl<V: Chronicle> Turn<V> {
         }
     }
 
-    /// Ends a seat that is out. The first seat has then the entries of both, and the later front.
+    /// Ends a seat that is out. The other has then the entries of both, and the later front.
     pub fn join(&self, seat: &mut Seat<V>, other: Seat<V>)
         requires own { IsOwn self.now seat.old × IsOwn self.now other }
         requires free { HoldsNoTurn seat.old × HoldsNoTurn other }
@@ -223,7 +256,8 @@ impl<V: Chronicle> Turn<V> {
         ensures seat { IsJoined seat.old other seat.new }
         ensures apart { AreDistinct (map V.number (mine seat.new)) }
         ensures front { (front seat.new ≡ front seat.old) ⊎ (front seat.new ≡ front other) }
-        ensures follows { V.follows (V.setting (opening self.now)) (front seat.old) (front seat.new) × V.follows (V.setting (opening self.now)) (front other) (front seat.new) }
+        ensures follows { V.follows (V.setting (opening self.now)) (front seat.old) (front seat.new) }
+        ensures follows_other { V.follows (V.setting (opening self.now)) (front other) (front seat.new) }
     {
         let Seat { seat: theirs, next } = other;
         let shared = &self.table.shared;
@@ -233,33 +267,56 @@ impl<V: Chronicle> Turn<V> {
         seat.next = own.max(next);
     }
 
-    /// Sleeps until an entry was appended that the seat's front does not have. First it wakes another seat that rests, so that a wake reaches each.
+    /// Sleeps until an entry was appended that the seat's front does not have. First it wakes another seat that rests, so that a wake is passed on.
     pub fn rest<R: Wait>(&self, rt: &R, seat: &mut Seat<V>)
-        ensures same { seat.new ≡ seat.old }
+        requires own { IsOwn self.now seat.old }
+        requires free { HoldsNoTurn seat.old }
+        ensures own { IsOwn self.now seat.new }
+        ensures free { HoldsNoTurn seat.new }
+        ensures same { IsSameSeat seat.old seat.new }
+        ensures tries { SameTries seat.old seat.new }
+        ensures front { front seat.new ≡ front seat.old }
+        ensures mine { mine seat.new ≡ mine seat.old }
+        ensures later { (front seat.new).next ≤ seen seat.new }
     {
-        let shared = &self.table.shared;
-        shared.wake_one(COUNT);
+        self.table.shared.wake_one(COUNT);
         let behind = seat.next - 1;
         for _ in rt.forever() {
-            let count = shared.peek(COUNT);
+            let count = self.look(seat);
             if count != behind {
                 return;
             }
-            shared.park(rt, COUNT, (count % (1 << 32)) as u32);
+            self.table
+                .shared
+                .park(rt, COUNT, (count % (1 << 32)) as u32);
         }
+        unreachable!()
+    }
+
+    // The number of the last entry.
+    fn look(&self, seat: &mut Seat<V>) -> u64
+        requires { IsOwn self.now seat.old }
+        ensures own { IsOwn self.now seat.new }
+        ensures looked { HasLooked seat.old seat.new result }
+        ensures least { (front seat.new).next ≤ result + 1 }
+    {
+        self.table.shared.load::<Look<V>>(&mut seat.seat, COUNT)
     }
 
     /// Ends the turn and gives its value. Where another seat holds the turn, the value is gone with it.
-    ///
-    /// The first seat, once all others were joined into it, always has the value.
     pub fn close(self, seat: Seat<V>) -> Result<V, TurnHeld>
         requires own { IsOwn self seat }
         requires free { HoldsNoTurn seat }
-        ensures value { IfOk result (λ v. (V.setting v ≡ V.setting (opening self)) × V.follows (V.setting (opening self)) (front seat) (V.history v)) }
-        ensures fits { IfOk result (λ v. V.fits (V.setting (opening self)) (V.history v)) }
-        ensures held { IfErr result (λ e. e.found ≡ TAKEN) }
+        ensures setting { IfOk result (λ value. V.setting value ≡ V.setting (opening self)) }
+        ensures follows { IfOk result (λ value.
+            V.follows (V.setting (opening self)) (front seat) (V.history value)) }
+        ensures fits { IfOk result (λ value. V.fits (V.setting (opening self)) (V.history value)) }
+        ensures held { IfErr result (λ end. end.found ≡ TAKEN) }
+
+        // The first seat, once no other is out, has the value, and each number that was given.
         ensures first { name seat ≡ [] → out seat ≡ [] → IsOk result }
-        ensures all { name seat ≡ [] → out seat ≡ [] → IfOk result (λ v. AreAllBetween (V.history (opening self)).next (V.history v).next (map V.number (mine seat))) }
+        ensures all { name seat ≡ [] → out seat ≡ [] → IfOk result (λ value.
+            AreAllBetween (V.history (opening self)).next (V.history value).next (map V.number (mine seat))) }
     {
         let Turn { table } = self;
         let Seat { seat, next: _ } = seat;

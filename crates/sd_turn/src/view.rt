@@ -40,5 +40,7 @@ pub struct View<E, C> {
     pub takes: u64,
     /// The turn word that the last such try found.
     pub found: u64,
+    /// The number of the last entry, as the last look at the count word found it.
+    pub seen: u64,
     pub stage: Stage<E>,
 }

@@ -1,4 +1,3 @@
-use Rattle.std.proofs.Common.{◌≡◌}
 use Rattle.sd_turn.specs.Seats.{IsOwn, HoldsNoTurn, IsSameSeat}
 use Rattle.sd_turn.proofs.tests.keep_and_append.Given as goal
 

@@ -1,4 +1,5 @@
 use Rattle.std.proofs.Common.{arith, ◌≡◌, ◌∙◌, ◌++◌, ◌+◌, ap, sym, drop, length, ◌-◌}
+use Rattle.sd_turn.specs.Histories.{with_entries}
 use Rattle.sd_turn.specs.Seats.{mine, history_now}
 use Rattle.sd_turn.proofs.Lists.{last_alone}
 use Rattle.sd_turn.proofs.turn.Turn.append.Goals as goal
@@ -10,6 +11,6 @@ count-requires-clause-grown g c = let t = c.requires.grown in let n = c.next_num
 pub returns-clause-mine : goal.returns-clause-mine
 returns-clause-mine g c e is = c.count.ensures.mine ∙ ap (λ es. mine c.args.seat.now ++ es) (ap (λ z. drop (length z.entries - 1) z.entries) is ∙ last_alone (history_now c.args.seat.now).entries e)
 
-pub returns-clause-holds : goal.returns-clause-holds
-returns-clause-holds g c = let h = c.count.ensures.holds in let t = c.requires.grown in
-    (h.0, h.1, h.2 ∙ (ap (λ es. record { entries = (history_now c.args.seat.now).entries ++ es; next = (history_now c.args.seat.now).next + 1 }) (ap (λ z. drop (length z.entries - 1) z.entries) t.1 ∙ last_alone (history_now c.args.seat.now).entries t.0) ∙ sym t.1))
+pub returns-clause-now : goal.returns-clause-now
+returns-clause-now g c = let t = c.requires.grown in
+    c.count.ensures.now ∙ (ap (with_entries (history_now c.args.seat.now)) (ap (λ z. drop (length z.entries - 1) z.entries) t.1 ∙ last_alone (history_now c.args.seat.now).entries t.0) ∙ sym t.1)

@@ -1,4 +1,4 @@
-use Rattle.std.proofs.Common.{rules, ◌≡◌, ◌≢◌, refl, sym, ap, ◌∙◌, subst, Some, get_or}
+use Rattle.std.proofs.Common.{rules, ◌≡◌, refl, sym, ap, ◌∙◌, subst, Some}
 use Rattle.std.specs.Prelude.{IsSome}
 use mathlib.Core.Option.{some, some-injective}
 use Rattle.sd_turn.specs.Seats.{opening, front}
@@ -10,11 +10,17 @@ pub unwrap-requires : goal.unwrap-requires
 unwrap-requires g c = let t = closes g.V.Chronicle (opening c.args.self) _ _ _ _ _ c.requires.own.1 c.requires.free.0 c.close_with-closed.ensures.values.2 in
     let v = t.value (get_or_at _ 0 _ 0 c.word-found.ensures ∙ c.if-found-ne-FREE.false) in subst IsSome (some-injective _ _ (sym v.1 ∙ c.take-slot.ensures.value)) refl
 
-pub returns-clause-value : goal.returns-clause-value
-returns-clause-value g c = let t = closes g.V.Chronicle (opening c.args.self) _ _ _ _ _ c.requires.own.1 c.requires.free.0 c.close_with-closed.ensures.values.2 in
+pub returns-clause-setting : goal.returns-clause-setting
+returns-clause-setting g c = let t = closes g.V.Chronicle (opening c.args.self) _ _ _ _ _ c.requires.own.1 c.requires.free.0 c.close_with-closed.ensures.values.2 in
     let v = t.value (get_or_at _ 0 _ 0 c.word-found.ensures ∙ c.if-found-ne-FREE.false) in
     let same : v.0 ≡ c.unwrap.result = search (rules, some-injective (Some v.0) c.take-slot.result (sym v.1 ∙ c.take-slot.ensures.value)) in
-    (ap g.V.Chronicle.setting (sym same) ∙ v.2, subst (λ x. g.V.Chronicle.follows (g.V.Chronicle.setting (opening c.args.self)) (front c.args.seat) (g.V.Chronicle.history x)) same v.3)
+    ap g.V.Chronicle.setting (sym same) ∙ v.2
+
+pub returns-clause-follows : goal.returns-clause-follows
+returns-clause-follows g c = let t = closes g.V.Chronicle (opening c.args.self) _ _ _ _ _ c.requires.own.1 c.requires.free.0 c.close_with-closed.ensures.values.2 in
+    let v = t.value (get_or_at _ 0 _ 0 c.word-found.ensures ∙ c.if-found-ne-FREE.false) in
+    let same : v.0 ≡ c.unwrap.result = search (rules, some-injective (Some v.0) c.take-slot.result (sym v.1 ∙ c.take-slot.ensures.value)) in
+    subst (λ x. g.V.Chronicle.follows (g.V.Chronicle.setting (opening c.args.self)) (front c.args.seat) (g.V.Chronicle.history x)) same v.3
 
 pub returns-clause-fits : goal.returns-clause-fits
 returns-clause-fits g c = let t = closes g.V.Chronicle (opening c.args.self) _ _ _ _ _ c.requires.own.1 c.requires.free.0 c.close_with-closed.ensures.values.2 in

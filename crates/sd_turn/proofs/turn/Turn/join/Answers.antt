@@ -1,4 +1,4 @@
-use Rattle.std.proofs.Common.{rules, ◌≡◌, ap, ◌∙◌, ⊎_elim, arith, inl, inr, subst, sym, map, max}
+use Rattle.std.proofs.Common.{rules, ◌≡◌, ap, ◌∙◌, ⊎_elim, arith, inl, inr, subst, sym, map}
 use Rattle.sd_turn.specs.Counts.{AreDistinct}
 use Rattle.sd_turn.specs.Seats.{opening, front}
 use Rattle.sd_turn.proofs.Joining.{joins_seats, settles, joins}
@@ -26,7 +26,7 @@ returns-clause-free g c = let t = joins g.V.Chronicle (opening c.args.self.now) 
 
 pub returns-clause-seat : goal.returns-clause-seat
 returns-clause-seat g c = let t = joins g.V.Chronicle (opening c.args.self.now) c.args.seat.now.seat.me c.args.other.seat.me _ _ c.requires.own.0.1 c.join_seat.ensures.2 c.load-seat.ensures.2 in
-    (ap (λ m. m.0.name) t.is, ap (λ m. m.0.splits) t.is, ap (λ m. m.0.out) t.is, ap (λ m. m.0.mine) t.is, ap (λ m. m.0.takes) t.is, ap (λ m. m.0.found) t.is)
+    (ap (λ m. m.0.name) t.is, ap (λ m. m.0.splits) t.is, ap (λ m. m.0.out) t.is, ap (λ m. m.0.mine) t.is, (ap (λ m. m.0.takes) t.is, ap (λ m. m.0.found) t.is))
 
 pub returns-clause-apart : goal.returns-clause-apart
 returns-clause-apart g c = let t = joins g.V.Chronicle (opening c.args.self.now) c.args.seat.now.seat.me c.args.other.seat.me _ _ c.requires.own.0.1 c.join_seat.ensures.2 c.load-seat.ensures.2 in
@@ -38,5 +38,8 @@ returns-clause-front g c = let t = joins g.V.Chronicle (opening c.args.self.now)
 
 pub returns-clause-follows : goal.returns-clause-follows
 returns-clause-follows g c = let t = joins g.V.Chronicle (opening c.args.self.now) c.args.seat.now.seat.me c.args.other.seat.me _ _ c.requires.own.0.1 c.join_seat.ensures.2 c.load-seat.ensures.2 in
-    let d = g.V.Chronicle.setting (opening c.args.self.now) in
-    (subst (λ m. g.V.Chronicle.follows d (front c.args.seat.now) m.0.front) (sym t.is) t.follows_own, subst (λ m. g.V.Chronicle.follows d (front c.args.other) m.0.front) (sym t.is) t.follows_other)
+    subst (λ m. g.V.Chronicle.follows (g.V.Chronicle.setting (opening c.args.self.now)) (front c.args.seat.now) m.0.front) (sym t.is) t.follows_own
+
+pub returns-clause-follows_other : goal.returns-clause-follows_other
+returns-clause-follows_other g c = let t = joins g.V.Chronicle (opening c.args.self.now) c.args.seat.now.seat.me c.args.other.seat.me _ _ c.requires.own.0.1 c.join_seat.ensures.2 c.load-seat.ensures.2 in
+    subst (λ m. g.V.Chronicle.follows (g.V.Chronicle.setting (opening c.args.self.now)) (front c.args.other) m.0.front) (sym t.is) t.follows_other

@@ -11,8 +11,12 @@ pub exchange-requires : goal.exchange-requires
 exchange-requires g c = let taken = c.compare_exchange.ensures.2.1 c.if-compare_exchange-ne-FREE.false in let e = ap (λ m. m.1) taken.2 in
     (search rules, (Some taken.0, e ∙ ap (λ cs. (0, Some taken.0) ∷ rest cs) (sym e)))
 
+pub returns-clause-setting : goal.returns-clause-setting
+returns-clause-setting g c = let taken = c.compare_exchange.ensures.2.1 c.if-compare_exchange-ne-FREE.false in
+    let same : taken.0 ≡ c.unwrap-value.result = search rules in
+    ap g.V.Chronicle.setting (sym same) ∙ (taken.3 _ c.requires.own.1).0
+
 pub returns-clause-follows : goal.returns-clause-follows
 returns-clause-follows g c = let taken = c.compare_exchange.ensures.2.1 c.if-compare_exchange-ne-FREE.false in
     let same : taken.0 ≡ c.unwrap-value.result = search rules in
-    let told = taken.3 _ c.requires.own.1 in
-    (ap g.V.Chronicle.setting (sym same) ∙ told.0, subst (λ v. g.V.Chronicle.follows (g.V.Chronicle.setting (opening c.args.self.now)) (front c.args.seat.now) (g.V.Chronicle.history v)) same told.1)
+    subst (λ v. g.V.Chronicle.follows (g.V.Chronicle.setting (opening c.args.self.now)) (front c.args.seat.now) (g.V.Chronicle.history v)) same (taken.3 _ c.requires.own.1).1
