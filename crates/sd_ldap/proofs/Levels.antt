@@ -1,5 +1,5 @@
 -- A filter by its levels.
-use Rattle.std.proofs.Common.{◌≡◌, ◌≢◌, ℕ, zero, suc, ◌-◌, ◌<◌, Result, Ok, Err, refl, sym, ap, ◌∙◌, arith}
+use Rattle.std.proofs.Common.{◌≡◌, ◌≢◌, ℕ, suc, ◌-◌, Result, Ok, Err, ap, ◌∙◌, arith}
 use Rattle.sd_ber.specs.Reading.{Reading, Opened}
 use Rattle.sd_ldap.specs.declared.fault.ReadFault.{ReadFault}
 use Rattle.sd_ldap.specs.declared.fault.ReadFault.TheVariants.{Memory, Bad}

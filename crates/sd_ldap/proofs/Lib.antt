@@ -1,3 +1,7 @@
 pub mod Loops
 pub mod Runs
 pub mod Levels
+pub mod Again
+pub mod FilterAgain
+pub mod MessageAgain
+pub mod Cuts

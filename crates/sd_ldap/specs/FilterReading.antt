@@ -1,5 +1,5 @@
 -- How filters are read.
-use Rattle.std.specs.Prelude.{◌≡◌, ℕ, zero, suc, ◌==◌, ◌||◌, Bool, true, false, if◌then◌else◌, List, [], ◌∷◌, length, Option, Some, None, Result, Ok, Err}
+use Rattle.std.specs.Prelude.{ℕ, zero, suc, ◌==◌, ◌||◌, Bool, true, false, if◌then◌else◌, List, [], ◌∷◌, length, Option, Some, None, Result, Ok, Err}
 use Rattle.sd_ber.specs.Reading.{Reading, Opened, element_at}
 use Rattle.sd_ber.specs.declared.fault.BerFault.{BerFault}
 use Rattle.sd_ldap.specs.declared.filter_reading.Pieces.{Pieces}

@@ -1,5 +1,5 @@
 -- A filter without where it lies in memory.
-use Rattle.std.specs.Prelude.{ℕ, suc, max, List, [], ◌∷◌, map, Option, Some, None}
+use Rattle.std.specs.Prelude.{ℕ, List, [], ◌∷◌, map, Option}
 use Rattle.sd_ldap.specs.declared.filter.Filter.{Filter, fold-Filter}
 use Rattle.sd_ldap.specs.declared.filter.Filter.TheOpen.{Filter-F}
 
@@ -16,12 +16,12 @@ mutual
     unsupported : FilterValue
 
   pub data FilterValues : Type 0 where
-    no_more : FilterValues
-    more : FilterValue → FilterValues → FilterValues
+    no_filters : FilterValues
+    with_filter : FilterValue → FilterValues → FilterValues
 
 abbrev pub filters_of : List FilterValue → FilterValues
-filters_of [] = no_more
-filters_of (f ∷ fs) = more f (filters_of fs)
+filters_of [] = no_filters
+filters_of (f ∷ fs) = with_filter f (filters_of fs)
 
 -- one level, with each filter inside already seen as its value
 abbrev pub filter_step : Filter-F FilterValue → FilterValue

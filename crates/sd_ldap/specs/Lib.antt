@@ -7,3 +7,4 @@ pub mod MessageReading
 pub mod Decoding
 pub mod Spelling
 pub mod Sound
+pub mod Laws

@@ -1,5 +1,5 @@
 -- How messages are read.
-use Rattle.std.specs.Prelude.{◌≡◌, ℕ, zero, suc, ◌==◌, nat_lt, if◌then◌else◌, Bool, List, [], ◌∷◌, length, Result, Ok, Err}
+use Rattle.std.specs.Prelude.{ℕ, ◌==◌, nat_lt, if◌then◌else◌, List, [], ◌∷◌, length, Result, Ok, Err}
 use Rattle.sd_ber.specs.declared.fault.BerFault.{BerFault}
 use Rattle.sd_ber.specs.declared.fault.BerFault.TheVariants.{BadTag, Indefinite, TooLong, Short, BadInteger}
 use Rattle.sd_ber.specs.declared.header.Header.{Header}
@@ -35,17 +35,17 @@ search_in r = do
   list ← expected 48 filter.1
   attributes ← texts_in list.0
   ended
-    (record {
-      base = span.0.base;
-      scope = span.0.scope;
-      deref = span.0.deref;
-      size = bounds.0.size;
-      time = bounds.0.time;
-      types_only = bounds.0.types_only;
-      filter = filter.0;
-      attributes = attributes;
-    })
-    list.1
+      (record {
+        base = span.0.base;
+        scope = span.0.scope;
+        deref = span.0.deref;
+        size = bounds.0.size;
+        time = bounds.0.time;
+        types_only = bounds.0.types_only;
+        filter = filter.0;
+        attributes = attributes;
+      })
+      list.1
 
 -- version, name and simple password
 unfoldable pub bind_in : Reading → Result OperationValue ℕ

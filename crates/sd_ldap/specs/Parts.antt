@@ -1,5 +1,5 @@
 -- The parts that messages are made of.
-use Rattle.std.specs.Prelude.{◌≡◌, ℕ, zero, suc, ℤ, pos, negsuc, Bool, true, false, not, ◌==◌, ◌&&◌, nat_le, if◌then◌else◌, List, [], ◌∷◌, length, Result, Ok, Err}
+use Rattle.std.specs.Prelude.{ℕ, ℤ, pos, negsuc, Bool, not, ◌==◌, ◌&&◌, nat_le, if◌then◌else◌, List, [], ◌∷◌, Result, Ok, Err}
 use Rattle.sd_ber.specs.declared.fault.BerFault.{BerFault}
 use Rattle.sd_ber.specs.Reading.{Reading, Opened, element_at, integer_at}
 use Rattle.sd_ldap.specs.declared.entry.Attribute.{Attribute}

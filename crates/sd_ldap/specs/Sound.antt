@@ -1,6 +1,6 @@
 -- What a message needs to be written and read back.
-use Rattle.std.specs.Prelude.{◌≡◌, ◌≢◌, ℕ, suc, max, ◌%◌, ◌^◌, ◌<◌, ◌≤◌, Bool, true, List}
-use Rattle.sd_ldap.specs.Filters.{FilterValue, FilterValues, both, either, negated, equal, substrings, at_least, at_most, present, unsupported, no_more, more}
+use Rattle.std.specs.Prelude.{◌≡◌, ◌≢◌, ℕ, suc, max, ◌%◌, ◌^◌, ◌<◌, ◌≤◌, true}
+use Rattle.sd_ldap.specs.Filters.{FilterValue, FilterValues, both, either, negated, equal, substrings, at_least, at_most, present, unsupported, no_filters, with_filter}
 use Rattle.sd_ldap.specs.Values.{SearchValue, OperationValue, MessageValue, bind_request, bind_response, unbind, search, entry, done, reference, other}
 use Rattle.sd_ldap.specs.FilterReading.{has_part}
 
@@ -18,8 +18,8 @@ abbrev mutual
   levels_of unsupported = 1
 
   pub most_levels : FilterValues → ℕ
-  most_levels no_more = 0
-  most_levels (more filter rest) = max (levels_of filter) (most_levels rest)
+  most_levels no_filters = 0
+  most_levels (with_filter filter rest) = max (levels_of filter) (most_levels rest)
 
 -- each substrings filter has a part
 abbrev mutual
@@ -35,8 +35,8 @@ abbrev mutual
   HasParts unsupported = Unit {0}
 
   pub AllHaveParts : FilterValues → Type 0
-  AllHaveParts no_more = Unit {0}
-  AllHaveParts (more filter rest) = HasParts filter × AllHaveParts rest
+  AllHaveParts no_filters = Unit {0}
+  AllHaveParts (with_filter filter rest) = HasParts filter × AllHaveParts rest
 
 pub record IsSoundSearch (s : SearchValue) : Type 0 where
   pub scope : s.scope ≤ 2
@@ -59,11 +59,11 @@ pub record IsOtherTag (tag : ℕ) : Type 0 where
 
 abbrev pub IsSoundOperation : OperationValue → Type 0
 IsSoundOperation (bind_request version name password) = (1 ≤ version) × (version ≤ 127)
-IsSoundOperation (bind_response result) = Unit {0}
+IsSoundOperation (bind_response result) = result.code < 2 ^ 32
 IsSoundOperation unbind = Unit {0}
 IsSoundOperation (search request) = IsSoundSearch request
 IsSoundOperation (entry found) = Unit {0}
-IsSoundOperation (done result) = Unit {0}
+IsSoundOperation (done result) = result.code < 2 ^ 32
 IsSoundOperation reference = Unit {0}
 IsSoundOperation (other tag) = IsOtherTag tag
 

@@ -1,12 +1,12 @@
 -- The bytes that are written.
-use Rattle.std.specs.Prelude.{ℕ, Bool, ◌+◌, List, [], ◌∷◌, ◌++◌, drop, nat_lt, if◌then◌else◌, Option, Some, None}
+use Rattle.std.specs.Prelude.{ℕ, Bool, List, [], ◌∷◌, ◌++◌, drop, nat_lt, if◌then◌else◌, Option, Some, None}
 use Rattle.std.specs.List.{flat_map}
 use Rattle.std.specs.Int.{w32, to_be_bytes}
 use Rattle.sd_ber.specs.Octets.{element}
 use Rattle.sd_ldap.specs.declared.result.LdapResult.{LdapResult}
 use Rattle.sd_ldap.specs.declared.entry.Attribute.{Attribute}
 use Rattle.sd_ldap.specs.declared.entry.DirEntry.{DirEntry}
-use Rattle.sd_ldap.specs.Filters.{FilterValue, FilterValues, both, either, negated, equal, substrings, at_least, at_most, present, unsupported, no_more, more}
+use Rattle.sd_ldap.specs.Filters.{FilterValue, FilterValues, both, either, negated, equal, substrings, at_least, at_most, present, unsupported, no_filters, with_filter}
 use Rattle.sd_ldap.specs.Values.{SearchValue, OperationValue, MessageValue, bind_request, bind_response, unbind, search, entry, done, reference, other}
 
 -- how many of a zero and the four octets of a number are not needed: the first octet is below 128
@@ -69,8 +69,8 @@ abbrev mutual
   filter_bytes unsupported = inside 169 []
 
   pub filters_bytes : FilterValues → List ℕ
-  filters_bytes no_more = []
-  filters_bytes (more filter rest) = filter_bytes filter ++ filters_bytes rest
+  filters_bytes no_filters = []
+  filters_bytes (with_filter filter rest) = filter_bytes filter ++ filters_bytes rest
 
 abbrev pub span_bytes : List ℕ → ℕ → ℕ → List ℕ
 span_bytes base scope deref = text_bytes 4 base ++ (number_bytes 10 scope ++ number_bytes 10 deref)
@@ -82,15 +82,28 @@ abbrev pub search_bytes : SearchValue → List ℕ
 search_bytes s =
     span_bytes s.base s.scope s.deref ++ (bounds_bytes s.size s.time s.types_only ++ (filter_bytes s.filter ++ inside 48 (texts_bytes 4 s.attributes)))
 
+abbrev pub operation_tag : OperationValue → ℕ
+operation_tag (bind_request version name password) = 96
+operation_tag (bind_response result) = 97
+operation_tag unbind = 66
+operation_tag (search request) = 99
+operation_tag (entry found) = 100
+operation_tag (done result) = 101
+operation_tag reference = 115
+operation_tag (other tag) = tag
+
+abbrev pub operation_contents : OperationValue → List ℕ
+operation_contents (bind_request version name password) = number_bytes 2 version ++ (text_bytes 4 name ++ text_bytes 128 password)
+operation_contents (bind_response result) = result_bytes result
+operation_contents unbind = []
+operation_contents (search request) = search_bytes request
+operation_contents (entry found) = entry_bytes found
+operation_contents (done result) = result_bytes result
+operation_contents reference = []
+operation_contents (other tag) = []
+
 abbrev pub operation_bytes : OperationValue → List ℕ
-operation_bytes (bind_request version name password) = inside 96 (number_bytes 2 version ++ (text_bytes 4 name ++ text_bytes 128 password))
-operation_bytes (bind_response result) = inside 97 (result_bytes result)
-operation_bytes unbind = inside 66 []
-operation_bytes (search request) = inside 99 (search_bytes request)
-operation_bytes (entry found) = inside 100 (entry_bytes found)
-operation_bytes (done result) = inside 101 (result_bytes result)
-operation_bytes reference = inside 115 []
-operation_bytes (other tag) = inside tag []
+operation_bytes operation = inside (operation_tag operation) (operation_contents operation)
 
 abbrev pub content_bytes : MessageValue → List ℕ
 content_bytes m = number_bytes 2 m.id ++ operation_bytes m.operation

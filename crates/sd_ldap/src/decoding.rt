@@ -3,6 +3,7 @@ ghost use Rattle.std.specs.Prelude.{◌≡◌, ◌≢◌, ℕ, List, ◌++◌};
 ghost use Rattle.sd_ber.specs.Reading.{start_of, element_at, header_at};
 ghost use Rattle.sd_ldap.specs.MessageReading.{decode_of, framed, outer_of, content_of, message_in};
 ghost use Rattle.sd_ldap.specs.Decoding.{IsDecoded};
+ghost use Rattle.sd_ldap.specs.Laws.{Stays};
 
 use crate::fault::ReadFault;
 use crate::message::Message;
@@ -26,8 +27,16 @@ pub enum Decoded {
 }
 
 /// The message that bytes begin with (RFC 4511 sections 4.1.1 and 5.1).
-#[tactic(auto, unfolding(crate::specs::MessageReading::decode_of))]
 pub fn decode(alloc: Global, bytes: &[u8]) -> Decoded
+    ensures exact { IsDecoded result (decode_of bytes.now) }
+    // However a stream is cut, only what is unfinished waits for more.
+    ensures stays { Stays bytes.now }
+{
+    start(alloc, bytes)
+}
+
+#[tactic(auto, unfolding(crate::specs::MessageReading::decode_of))]
+fn start(alloc: Global, bytes: &[u8]) -> Decoded
     ensures { IsDecoded result (decode_of bytes.now) }
 {
     let [first, ..] = bytes else {

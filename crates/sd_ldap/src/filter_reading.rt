@@ -100,12 +100,7 @@ fn substrings(alloc: Global, at: u64, mut reader: Reader<'_>) -> Result<Filter, 
         return Err(ReadFault::Bad(at));
     }
     end(&reader)?;
-    Ok(Filter::Substrings(
-        name,
-        pieces.initial,
-        pieces.any,
-        pieces.last,
-    ))
+    Ok(Filter::Substrings(name, pieces.initial, pieces.any, pieces.last))
 }
 
 /// A filter of at most so many levels.

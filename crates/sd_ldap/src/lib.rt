@@ -2,10 +2,12 @@
 #![tactic(auto)]
 
 mod decoding;
+mod encoding;
 mod entry;
 mod fault;
 mod filter;
 mod filter_reading;
+mod filter_writing;
 mod message;
 mod message_reading;
 mod parts;
@@ -13,8 +15,12 @@ mod result;
 mod writing;
 
 pub use decoding::{Decoded, MAX_LENGTH, decode};
+pub use encoding::{EncodeFault, encode, write_message};
 pub use entry::{Attribute, Attributes, DirEntries, DirEntry};
 pub use fault::ReadFault;
 pub use filter::Filter;
 pub use message::{Message, Operation, SearchRequest};
 pub use result::LdapResult;
+
+#[cfg(test)]
+mod tests;

@@ -66,12 +66,7 @@ fn within(at: u64, least: u32, most: u32, value: i64) -> Result<u32, ReadFault>
 }
 
 #[tactic(auto, unfolding(crate::specs::Parts::number_in))]
-pub fn number(
-    reader: &mut Reader<'_>,
-    tag: u8,
-    least: u32,
-    most: u32,
-) -> Result<u32, ReadFault>
+pub fn number(reader: &mut Reader<'_>, tag: u8, least: u32, most: u32) -> Result<u32, ReadFault>
     ensures exact { Gives (λ n. n) result reader.new (number_in tag least most reader.old) }
     ensures bounds { IfOk result (λ n. n ≤ most) }
 {

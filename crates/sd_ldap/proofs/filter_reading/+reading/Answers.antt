@@ -1,4 +1,4 @@
-use Rattle.std.proofs.Common.{◌≡◌, length, ap, sym, ◌∙◌, map, ◌++◌, ◌∷◌, [], ◌-◌, subst, ℕ}
+use Rattle.std.proofs.Common.{◌≡◌, length, ap, sym, ◌∙◌, map, ◌++◌, ◌∷◌, []}
 use Rattle.std.proofs.lemmas.Result.{err_from_is_err_and}
 use Rattle.std.proofs.lemmas.List.{map_push}
 use Rattle.sd_ldap.specs.Monad.{all_of}

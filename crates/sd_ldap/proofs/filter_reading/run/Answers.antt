@@ -1,4 +1,4 @@
-use Rattle.std.proofs.Common.{◌≡◌, ap, ◌∙◌, length, List, ℕ, Option}
+use Rattle.std.proofs.Common.{ap, ◌∙◌, length, List, ℕ, Option}
 use Rattle.sd_ldap.specs.FilterReading.{run_in}
 use Rattle.sd_ldap.proofs.Runs.{stops, goes_on, last}
 use Rattle.sd_ldap.proofs.filter_reading.run.Goals as goal
