@@ -22,7 +22,7 @@ line_stops w line text form out ls n is h told =
     let by : (line_done w (line_of line)).0 ≡ Err n = subst (λ (f : Line). (line_done w f).0 ≡ Err n) is h in
     let printed : (line_done w (line_of line)).1 ≡ text = subst (λ (f : Line). (line_done w f).1 ≡ text) is told in
     ap (λ (r : Result World ℕ). then_printed out (transcript_after r (line_done w (line_of line)).1 (λ v. transcript_on v ls))) by
-        ∙ ap (λ (bs : List ℕ). let t : Transcript = record { text = out ++ (bs ++ full_line n); is_full = true } in t) printed
+    ∙ ap (λ (bs : List ℕ). let t : Transcript = record { text = out ++ (bs ++ full_line n); is_full = true } in t) printed
 
 -- the whole output, where what is left begins with the line that ends it
 pub full_end : (w v : World) (line : List ℕ) (form : Line) (out old mid new : List ℕ) (ls left all : List (List ℕ)) (n : ℕ)
@@ -32,7 +32,7 @@ pub full_end : (w v : World) (line : List ℕ) (form : Line) (out old mid new : 
 full_end w v line form out old mid new ls left all n is h grown ended begins told =
     let text : List ℕ = (line_done w form).1 in
     let stopped : then_printed out (transcript_on w left) ≡ record { text = out ++ (text ++ full_line n); is_full = true } =
-        subst (λ (rest : List (List ℕ)). then_printed out (transcript_on w rest) ≡ record { text = out ++ (text ++ full_line n); is_full = true }) (sym begins) (line_stops w line text form out ls n is h refl) in
+    subst (λ (rest : List (List ℕ)). then_printed out (transcript_on w rest) ≡ record { text = out ++ (text ++ full_line n); is_full = true }) (sym begins) (line_stops w line text form out ls n is h refl) in
     let whole : then_printed old (transcript_on v all) ≡ record { text = out ++ (text ++ full_line n); is_full = true } = sym told ∙ stopped in
     let joined : new ≡ out ++ (text ++ full_line n) = ended ∙ ap (λ (bs : List ℕ). bs ++ full_line n) grown ∙ append_assoc out text (full_line n) in
     (joined ∙ sym (ap (λ (t : Transcript). t.text) whole), ap (λ (t : Transcript). t.is_full) whole)

@@ -60,7 +60,7 @@ renewed w name (Some request) = do
 abbrev pub shown : World → List ℕ → Looked → Result World ℕ × List ℕ
 shown w name looked = (
   renewed (record w { tasks = w.tasks + 1 }) name looked.renews,
-  printed default_pwfield (w.tasks + 1) looked.said
+  printed default_pwfield (w.tasks + 1) looked.said,
 )
 
 abbrev pub after_lookup : World → List ℕ → Result (Daemon × Looked) ℕ → Result World ℕ × List ℕ

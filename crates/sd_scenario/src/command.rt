@@ -54,7 +54,7 @@ pub fn scenario<S: Source, W: Sink>(
     // The sink failed in this call, or took nothing of a nonempty piece. A front of the output was written.
     ensures write_fault { result ≡ WRITE_FAULT → Rose (W.faults sink.old) (W.faults sink.new)
         × IfSome (S.left source.old) (λ text. AppendsFront (W.held sink.old) (W.held sink.new)
-            (endings.ending_by_words (endings.is_scenario (map string_bytes words.now)) text).output) }
+        (endings.ending_by_words (endings.is_scenario (map string_bytes words.now)) text).output) }
 
     // The input is at most 16 MiB, line n is the first without a form, and `bad line n` alone is written.
     ensures bad_line { result ≡ BAD_LINE → IfSome (S.left source.old) (λ text.

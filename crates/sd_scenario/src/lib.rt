@@ -9,11 +9,10 @@ pub mod lookups;
 pub mod prints;
 pub mod runs;
 pub mod stop;
-pub mod words;
-pub mod world;
-
 #[cfg(test)]
 mod tests;
+pub mod words;
+pub mod world;
 
 pub use command::scenario;
 pub use endings::{

@@ -35,12 +35,7 @@ fn at_form(ws: &[&[u8]]) -> Line
     }
 }
 
-fn user_line(
-    alloc: Global,
-    name: &[u8],
-    uid: Option<u32>,
-    gid: Option<u32>,
-) -> Result<Line, Memory>
+fn user_line(alloc: Global, name: &[u8], uid: Option<u32>, gid: Option<u32>) -> Result<Line, Memory>
     ensures { IfOk result (λ line. line ≡ lines.user_line name.now uid gid) }
 {
     let (Some(uid), Some(gid)) = (uid, gid) else {

@@ -75,12 +75,7 @@ fn push_texts_of_user(out: &mut Vec<u8>, user: &User) -> Result<(), Memory>
     push_escaped(out, user.shell.bytes())
 }
 
-fn push_user(
-    alloc: Global,
-    out: &mut Vec<u8>,
-    pwfield: &[u8],
-    user: &User,
-) -> Result<(), Memory>
+fn push_user(alloc: Global, out: &mut Vec<u8>, pwfield: &[u8], user: &User) -> Result<(), Memory>
     ensures { OnOk result (out.new.items ≡ out.old.items ++ prints.line_of_user pwfield.now user.now) }
 {
     push_escaped(out, user.name.bytes())?;
@@ -105,13 +100,8 @@ fn push_record(
     }
 }
 
-/// Appends a word, a number and a space.
-fn push_numbered(
-    alloc: Global,
-    out: &mut Vec<u8>,
-    word: &[u8],
-    number: u64,
-) -> Result<(), Memory>
+/// Appends a word and a number.
+fn push_numbered(alloc: Global, out: &mut Vec<u8>, word: &[u8], number: u64) -> Result<(), Memory>
     ensures { OnOk result (out.new.items ≡ out.old.items ++ (word.now ++ decimal number)) }
 {
     push_bytes(out, word)?;

@@ -79,7 +79,13 @@ fn renew(world: &mut World, name: &Text, request: Option<u64>) -> Result<(), Sto
 {
     match request {
         Some(request) => {
-            fetch(world.users.items(), &mut world.core, world.moment, name, request)?;
+            fetch(
+                world.users.items(),
+                &mut world.core,
+                world.moment,
+                name,
+                request,
+            )?;
             Ok(())
         }
         None => Ok(()),
@@ -107,12 +113,7 @@ fn show(
     renew(world, name, looked.renews)
 }
 
-fn get_user(
-    alloc: Global,
-    world: &mut World,
-    out: &mut Vec<u8>,
-    name: &Text,
-) -> Result<(), Stop>
+fn get_user(alloc: Global, world: &mut World, out: &mut Vec<u8>, name: &Text) -> Result<(), Stop>
     requires room { world.old.tasks + 1 < 2 ^ 64 }
     requires users { asks_users world.old.core.past ≡ true }
     ensures users { OnOk result (asks_users world.new.core.past ≡ true) }
@@ -125,13 +126,7 @@ fn get_user(
     show(alloc, world, out, name, &looked)
 }
 
-fn put_user(
-    alloc: Global,
-    world: &mut World,
-    name: &Text,
-    uid: u32,
-    gid: u32,
-) -> Result<(), Memory>
+fn put_user(alloc: Global, world: &mut World, name: &Text, uid: u32, gid: u32) -> Result<(), Memory>
     ensures { OnOk result (world.new ≡ script.user_put world.old name.now uid gid) }
 {
     let user = user_made(alloc, name, uid, gid)?;

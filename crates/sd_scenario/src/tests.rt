@@ -1,7 +1,5 @@
 // Worked scenarios over a source and a sink in memory.
-use crate::{
-    BAD_LINE, DONE, LIMIT, READ_FAULT, Status, TOO_LONG, USAGE, WRITE_FAULT, scenario,
-};
+use crate::{BAD_LINE, DONE, LIMIT, READ_FAULT, Status, TOO_LONG, USAGE, WRITE_FAULT, scenario};
 use sd_base::{MemorySink, MemorySource, Numbers};
 use std::alloc::Global;
 use std::test::Fail;
@@ -61,7 +59,11 @@ fn worked_scenarios(rt: HostRuntime) -> Result<(), Fail> {
             "1 none 3\n",
         ),
         ("user alice 1000 1000\nfrob\n", BAD_LINE, "bad line 2\n"),
-        ("getuser bob\nat 18446744073709551616\nfrob", BAD_LINE, "bad line 2\n"),
+        (
+            "getuser bob\nat 18446744073709551616\nfrob",
+            BAD_LINE,
+            "bad line 2\n",
+        ),
         ("user alice 1000 4294967296", BAD_LINE, "bad line 1\n"),
         (" # no comment", BAD_LINE, "bad line 1\n"),
     ] {
