@@ -16,12 +16,21 @@ use Rattle.sd_core.proofs.NamedLaws.{given_fits}
 use Rattle.sd_core.proofs.LawProofs.{names_fresh, waits_for_block}
 use Rattle.sd_core.proofs.OpenLaws.{one_open_after, keeps_outcomes}
 use Rattle.sd_core.proofs.AccessLaws.{goes_by_rules}
+use Rattle.sd_core.proofs.TicketLaws.{tickets_after, collect_fits}
 
 pub kept_at_first : (s : Settings) → IsKept (record { settings = s; next = 1; floor = 0; past = [] })
 kept_at_first s = record {
   numbers = refl;
   kinds = refl;
   open_once = record { one = λ r q k fr fq kr kq. cc };
+  tickets = record {
+    has_key = λ t r w. let clash : ⊥ = cc in absurd clash;
+    below = λ t r w. let clash : ⊥ = cc in absurd clash;
+    no_attempt = λ t r w. refl;
+    same_kind = λ t r k q w o kt kr. let clash : ⊥ = cc in absurd clash;
+    named_below = λ t r n w c is. let clash : ⊥ = cc in absurd clash;
+    of_kind = λ t r k w c own. refl;
+  };
 }
 
 numbers_after : (d : Daemon) (now : ℕ) (event : Event) → falls_from d.next d.past ≡ true → falls_from (next_number d + 1) (entry_made d now event ∷ d.past) ≡ true
@@ -34,6 +43,7 @@ kept_after d now event h kept = record {
   numbers = numbers_after d now event kept.numbers;
   kinds = kinds_after d now event h kept.kinds;
   open_once = one_open_after d now event kept.open_once;
+  tickets = tickets_after d now event kept.numbers kept.kinds h kept.tickets;
 }
 
 follows_laws : (d : Daemon) (now : ℕ) (event : Event) → IsKept d → FollowsLaws d now event (given d now event)
@@ -41,7 +51,7 @@ follows_laws d now event kept = record {
   fresh = names_fresh d.settings d.past (next_number d) (moment_of d now) event;
   by_rules = goes_by_rules d.settings d.past (next_number d) (moment_of d now) event;
   after_blocks = waits_for_block d.settings d.past (next_number d) (moment_of d now) event;
-  of_kind = given_fits d now event kept.numbers kept.kinds;
+  of_kind = given_fits d now event kept.numbers kept.kinds (λ ticket. collect_fits d.past d.next ticket kept.tickets);
 }
 
 pub given_follows : (d : Daemon) (now : ℕ) (event : Event) (g : Given) → g ≡ given d now event → IsKept d → FollowsLaws d now event g

@@ -24,7 +24,7 @@ use Rattle.sd_core.specs.Sound.{holds_kind, holds_kinds, falls_from}
 use Rattle.sd_core.proofs.Room.{false_is_not_true, falls_on, same_number}
 
 -- the kind of a record asks only for the kind of the key
-kind_only : (found : Record) (own k : Key) → kind_of own ≡ kind_of k → is_of_kind found own ≡ true → is_of_kind found k ≡ true
+pub kind_only : (found : Record) (own k : Key) → kind_of own ≡ kind_of k → is_of_kind found own ≡ true → is_of_kind found k ≡ true
 kind_only (records.User user) own k e h = subst (λ n. ((n == 0) || (n == 1)) ≡ true) e h
 kind_only (records.Group group) own k e h = subst (λ n. ((n == 2) || (n == 3)) ≡ true) e h
 kind_only (records.Groups groups) own k e h = subst (λ n. (n == 4) ≡ true) e h
@@ -43,7 +43,7 @@ pub one_holds : (a b : Bool) → (a || b) ≡ true → (a ≡ true) ⊎ (b ≡ t
 one_holds true b h = inl refl
 one_holds false b h = inr h
 
-same_kind : (a b : Key) → same_key a b ≡ true → kind_of a ≡ kind_of b
+pub same_kind : (a b : Key) → same_key a b ≡ true → kind_of a ≡ kind_of b
 same_kind a b h =
     let kinds = first_holds (kind_of a == kind_of b) (same_name (carried a) (carried b)) h in
     grind (arith, nat_tests, kinds)
@@ -128,7 +128,7 @@ abbrev pub Stood : List Entry → Option Standing → Type 0
 Stood past None = Unit {0}
 Stood past (Some a) = record_in (event_at past a.number) ≡ record_in_answer a.answered
 
-abbrev Below : ℕ → Option Standing → Type 0
+abbrev pub Below : ℕ → Option Standing → Type 0
 Below n None = Unit {0}
 Below n (Some a) = a.number < n
 
@@ -200,7 +200,7 @@ else_below : (n : ℕ) (x y : Option Standing) → Below n x → Below n y → B
 else_below n None y f g = g
 else_below n (Some a) y f g = f
 
-newest_below : (n : ℕ) (past : List Entry) (k : Key) → falls_from n past ≡ true → Below n (newest past k)
+pub newest_below : (n : ℕ) (past : List Entry) (k : Key) → falls_from n past ≡ true → Below n (newest past k)
 newest_below n [] k h = tt
 newest_below n (e ∷ past) k h =
     let below : e.number < n = grind (arith, nat_tests, h) in

@@ -14,15 +14,15 @@ use Rattle.sd_rules.specs.declared.replies.Reply.TheVariants as replies
 use Rattle.sd_rules.specs.declared.settings.Settings.{Settings}
 use Rattle.sd_rules.specs.Keys.{is_answer_of_kind}
 use Rattle.sd_rules.specs.Past.{Standing, newest, outage_at, key_of}
-use Rattle.sd_rules.specs.Requests.{open_for, is_open, is_open_request}
+use Rattle.sd_rules.specs.Requests.{open_for, is_open, is_open_request, waits_for}
 use Rattle.sd_rules.specs.Servers.{picked_server}
 use Rattle.sd_rules.specs.Answers.{is_found, is_fresh, is_filtered, is_past_midpoint, is_renewable, reply_in_outage, reply_by_request, reply_unless_fresh, reply_if_fresh, reply_by_newest, reply_to_ask}
-use Rattle.sd_rules.specs.Steps.{Daemon, next_number, moment_of, reply_to, reply_to_outage, reply_to_closing_outage, outage_outcome, outcome_in_outage, answer_named, answer_named_by_outcome, event_named, record_in, record_in_answer, record_named, event_at, given}
+use Rattle.sd_rules.specs.Steps.{Daemon, next_number, moment_of, reply_to, reply_to_collect, reply_to_outage, reply_to_closing_outage, outage_outcome, outcome_in_outage, answer_named, answer_named_by_outcome, event_named, record_in, record_in_answer, record_named, event_at, given}
 use Rattle.sd_core.specs.Sound.{holds_kinds, falls_from, is_of_kind_of, fits_key, found_fits}
 use Rattle.sd_core.proofs.KindLaws.{is_kind_for, newest_kind, Stood, newest_stood}
 
 -- a reply names no answer that found its key, or the one given
-abbrev Names : Option Standing → Option ℕ → Type 0
+abbrev pub Names : Option Standing → Option ℕ → Type 0
 Names x None = Unit {0}
 Names None (Some n) = ⊥
 Names (Some a) (Some n) = n ≡ a.number
@@ -82,7 +82,7 @@ ask_fits s past next number t k falls kinds =
     (newest_stood next past k falls) (newest_kind past k kinds)
 
 -- an outage names no answer but the newest of the key
-outcome_names : (number : ℕ) (x : Option Standing) → Names x (answer_named_by_outcome (outage_outcome number x))
+pub outcome_names : (number : ℕ) (x : Option Standing) → Names x (answer_named_by_outcome (outage_outcome number x))
 outcome_names number None = tt
 outcome_names number (Some a) = by_found (is_found a.answered)
   where
@@ -90,7 +90,7 @@ outcome_names number (Some a) = by_found (is_found a.answered)
     by_found true = refl
     by_found false = tt
 
-closing_fits : (past : List Entry) (next number : ℕ) (own : Option Key) → falls_from next past ≡ true → holds_kinds past ≡ true →
+pub closing_fits : (past : List Entry) (next number : ℕ) (own : Option Key) → falls_from next past ≡ true → holds_kinds past ≡ true →
     fits_key own (record_named past (replies.Shut (outcome_in_outage past number own))) ≡ true
 closing_fits past next number None falls kinds = refl
 closing_fits past next number (Some k) falls kinds =
@@ -116,14 +116,19 @@ outage_fits : (b : Bool) (past : List Entry) (next number n : ℕ) (picked : Opt
 outage_fits true past next number n picked falls kinds = servable_fits past next number n picked falls kinds
 outage_fits false past next number n picked falls kinds = fits_nothing (key_of past n)
 
--- the record that a step gives fits
-step_fits : (s : Settings) (past : List Entry) (next number t : ℕ) (event : Event) → falls_from next past ≡ true → holds_kinds past ≡ true →
-    found_fits past event (record_named past (reply_to s past number t event)) ≡ true
-step_fits s past next number t (events.Ask k) falls kinds = ask_fits s past next number t k falls kinds
-step_fits s past next number t (events.Outage n) falls kinds =
-    outage_fits (is_open past n) past next number n (picked_server s past n t) falls kinds
-step_fits s past next number t _ falls kinds = refl
+-- what a ticket takes fits the key of its question
+abbrev pub FitsTickets : List Entry → Type 0
+FitsTickets past = (ticket : ℕ) → fits_key (key_of past ticket) (record_named past (reply_to_collect past (waits_for past ticket))) ≡ true
 
-pub given_fits : (d : Daemon) (now : ℕ) (event : Event) → falls_from d.next d.past ≡ true → holds_kinds d.past ≡ true →
+-- the record that a step gives fits
+step_fits : (s : Settings) (past : List Entry) (next number t : ℕ) (event : Event) → falls_from next past ≡ true → holds_kinds past ≡ true → FitsTickets past →
+    found_fits past event (record_named past (reply_to s past number t event)) ≡ true
+step_fits s past next number t (events.Ask k) falls kinds tickets = ask_fits s past next number t k falls kinds
+step_fits s past next number t (events.Outage n) falls kinds tickets =
+    outage_fits (is_open past n) past next number n (picked_server s past n t) falls kinds
+step_fits s past next number t (events.Collect ticket) falls kinds tickets = tickets ticket
+step_fits s past next number t _ falls kinds tickets = refl
+
+pub given_fits : (d : Daemon) (now : ℕ) (event : Event) → falls_from d.next d.past ≡ true → holds_kinds d.past ≡ true → FitsTickets d.past →
     found_fits d.past event (given d now event).found ≡ true
-given_fits d now event falls kinds = step_fits d.settings d.past d.next (next_number d) (moment_of d now) event falls kinds
+given_fits d now event falls kinds tickets = step_fits d.settings d.past d.next (next_number d) (moment_of d now) event falls kinds tickets

@@ -62,7 +62,7 @@ open_as_either past q r e h =
     let same : q ≡ r = grind (arith, nat_tests, e) in
     subst (λ n. is_open past n ≡ true) same h
 
-closes_open : (s : Settings) (past : List Entry) (number t : ℕ) (event : Event) (r : ℕ) → closes event (reply_to s past number t event) r ≡ true → is_open past r ≡ true
+pub closes_open : (s : Settings) (past : List Entry) (number t : ℕ) (event : Event) (r : ℕ) → closes event (reply_to s past number t event) r ≡ true → is_open past r ≡ true
 closes_open s past number t (events.Answer q answered) r h =
     let f = reply_to_answer past q (key_of past q) answered in
     let o = is_open_request past q in
@@ -203,10 +203,10 @@ request_before_by true b x y f h = absurd (false_is_not_true h)
 request_before_by false true x y f h = absurd (false_is_not_true (sym f))
 request_before_by false false x y f h = h
 
-request_before : (e : Entry) (past : List Entry) (n : ℕ) → (e.number == n) ≡ false → is_open_request (e ∷ past) n ≡ true → is_open_request past n ≡ true
+pub request_before : (e : Entry) (past : List Entry) (n : ℕ) → (e.number == n) ≡ false → is_open_request (e ∷ past) n ≡ true → is_open_request past n ≡ true
 request_before e past n other h = request_before_by (closes e.event e.reply n) (e.number == n) e (unclosed past n) other h
 
-key_before : (e : Entry) (past : List Entry) (n : ℕ) (k : Key) → (e.number == n) ≡ false → key_of (e ∷ past) n ≡ Some k → key_of past n ≡ Some k
+pub key_before : (e : Entry) (past : List Entry) (n : ℕ) (k : Key) → (e.number == n) ≡ false → key_of (e ∷ past) n ≡ Some k → key_of past n ≡ Some k
 key_before e past n k other h = passed (e.number == n) (key_asked e.event) (key_of past n) other h
   where
     passed : (b : Bool) (x y : Option Key) → b ≡ false → (if b then x else y) ≡ Some k → y ≡ Some k

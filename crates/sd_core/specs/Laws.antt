@@ -3,6 +3,7 @@ use Rattle.std.specs.Prelude.{ℕ, Bool, true, false, ◌≡◌, ◌≢◌, ◌<
 use Rattle.sd_rules.specs.declared.keys.Key.{Key}
 use Rattle.sd_rules.specs.declared.keys.Key.TheVariants as keys
 use Rattle.sd_rules.specs.declared.records.Answered.TheVariants.{Found}
+use Rattle.sd_rules.specs.declared.records.Record.{Record}
 use Rattle.sd_rules.specs.declared.records.Record.TheVariants as records
 use Rattle.sd_rules.specs.declared.records.RuleBook.{RuleBook}
 use Rattle.sd_rules.specs.declared.replies.By.{By}
@@ -18,14 +19,15 @@ use Rattle.sd_rules.specs.declared.replies.Reply.{Reply}
 use Rattle.sd_rules.specs.declared.replies.Reply.TheVariants as replies
 use Rattle.sd_rules.specs.declared.replies.Verdict.TheVariants as verdicts
 use Rattle.sd_rules.specs.declared.settings.Settings.{Settings}
+use Rattle.sd_rules.specs.Keys.{kind_of}
 use Rattle.sd_rules.specs.Past.{Standing, newest, is_voided, outage_at, key_of}
-use Rattle.sd_rules.specs.Requests.{is_open, is_open_request, outcome_of}
+use Rattle.sd_rules.specs.Requests.{is_open, is_open_request, is_open_attempt, waits_for, outcome_of}
 use Rattle.sd_rules.specs.Answers.{is_found, timeout_of}
 use Rattle.sd_rules.specs.Logins.{wrong_count, last_wrong}
 use Rattle.sd_rules.specs.Access.{asker_of}
-use Rattle.sd_rules.specs.Steps.{Daemon, moment_of}
+use Rattle.sd_rules.specs.Steps.{Daemon, moment_of, record_in, event_named, answer_named_by_outcome}
 use Rattle.sd_hbac.specs.Grants.{Grants, NoneMatches}
-use Rattle.sd_core.specs.Sound.{falls_from, holds_kinds, found_fits}
+use Rattle.sd_core.specs.Sound.{falls_from, holds_kinds, is_of_kind_of, found_fits}
 
 -- the entry n is the newest answer of the key; its age is less than its timeout, and no invalidation that covers it stands after it
 pub record IsFreshAnswer (s : Settings) (past : List Entry) (t : ℕ) (k : Key) (n : ℕ) : Type 0 where
@@ -57,6 +59,22 @@ pub record HasOneOpen (past : List Entry) : Type 0 where
 -- the outcome of what is open no more stays as it is, so all its tickets take the same
 pub record KeepsOutcomes (before after : List Entry) : Type 0 where
   pub stays : (r : ℕ) → is_open before r ≡ false → outcome_of after r ≡ outcome_of before r
+
+-- the record of the answer that the outcome of a request names
+abbrev pub outcome_record : List Entry → ℕ → Option Record
+outcome_record past r = record_in (event_named past (answer_named_by_outcome (outcome_of past r)))
+
+-- A ticket that waits is for a request of a key of its own key's kind while that is open, and once it is closed the answer that its
+-- outcome names is of that kind. All numbers named are below the next.
+pub record HasFitTickets (next : ℕ) (past : List Entry) : Type 0 where
+  pub has_key : (t r : ℕ) → waits_for past t ≡ Some r → (k : Key) × (key_of past t ≡ Some k)
+  pub below : (t r : ℕ) → waits_for past t ≡ Some r → r < next
+  pub no_attempt : (t r : ℕ) → waits_for past t ≡ Some r → is_open_attempt past r ≡ false
+  pub same_kind : (t r : ℕ) (k q : Key) → waits_for past t ≡ Some r → is_open_request past r ≡ true → key_of past t ≡ Some k → key_of past r ≡ Some q →
+    kind_of q ≡ kind_of k
+  pub named_below : (t r n : ℕ) → waits_for past t ≡ Some r → is_open_request past r ≡ false → answer_named_by_outcome (outcome_of past r) ≡ Some n → n < next
+  pub of_kind : (t r : ℕ) (k : Key) → waits_for past t ≡ Some r → is_open_request past r ≡ false → key_of past t ≡ Some k →
+    is_of_kind_of k (outcome_record past r) ≡ true
 
 -- Where so many guesses are wrong that they block, the next one that is judged wrong comes only after the delay, and with no delay
 -- there is no such one before an entry accepts the user.
@@ -118,3 +136,4 @@ pub record IsKept (d : Daemon) : Type 0 where
   pub numbers : falls_from d.next d.past ≡ true
   pub kinds : holds_kinds d.past ≡ true
   pub open_once : HasOneOpen d.past
+  pub tickets : HasFitTickets d.next d.past

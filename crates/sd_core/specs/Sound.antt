@@ -3,7 +3,7 @@ use Rattle.std.specs.Prelude.{ℕ, Bool, true, false, ◌&&◌, ◌≡◌, ◌�
 use Rattle.sd_rules.specs.declared.keys.Key.{Key}
 use Rattle.sd_rules.specs.declared.records.Record.{Record}
 use Rattle.sd_rules.specs.declared.events.Event.{Event}
-use Rattle.sd_rules.specs.declared.events.Event.TheVariants.{Ask, Outage}
+use Rattle.sd_rules.specs.declared.events.Event.TheVariants.{Ask, Collect, Outage}
 use Rattle.sd_rules.specs.declared.replies.Entry.{Entry}
 use Rattle.sd_rules.specs.Keys.{is_of_kind, is_answer_of_kind}
 use Rattle.sd_rules.specs.Past.{Standing, key_of, answer_in}
@@ -42,9 +42,10 @@ abbrev pub fits_key : Option Key → Option Record → Bool
 fits_key None found = true
 fits_key (Some k) found = is_of_kind_of k found
 
--- the record that is given for an event is of the kind of the key that was asked: by a question itself, or by the request that an
--- outage closes
+-- the record that is given for an event is of the kind of the key that was asked: by a question itself, by the request that an outage
+-- closes, or by the question of the ticket that is collected
 abbrev pub found_fits : List Entry → Event → Option Record → Bool
 found_fits past (Ask k) found = is_of_kind_of k found
 found_fits past (Outage n) found = fits_key (key_of past n) found
+found_fits past (Collect ticket) found = fits_key (key_of past ticket) found
 found_fits past _ found = true
