@@ -7,3 +7,5 @@ pub mod logins;
 pub mod past;
 pub mod requests;
 pub mod servers;
+#[cfg(test)]
+mod tests;
