@@ -289,37 +289,41 @@ fn reads_an_installed_file(rt: HostRuntime) -> Result<(), Fail> {
     Ok(())
 }
 
+/// A file with comments, blanks and the line ends of other systems.
+const COMMENTED: &str = "# Debian's layout\r
+\r
+[sssd]\r
+config_file_version = 2\r
+ services = nss, pam\r
+\tdomains = LDAP\r
+; domains = A, B\r
+\r
+[nss]\r
+filter_users = root , , daemon\r
+pwfield =\r
+[domain/LDAP]\r
+id_provider = ldap\r
+ldap_uri = ldap://a:3890, ldap://b/\r
+ldap_search_base = ou=x = y,dc=test\r
+entry_cache_timeout = 1\r
+entry_cache_timeout = 600\r
+[domain/OTHER]\r
+id_provider = files\r
+[domain/LDAP]\r
+entry_cache_user_timeout = 30\r
+enumerate = true";
+
 #[test]
 fn reads_comments_and_blanks(rt: HostRuntime) -> Result<(), Fail> {
-    let mut text = Vec::new(rt.alloc());
-    text.extend_from_slice(
-        b"# Debian's layout\r\n\r\n[sssd]\r\nconfig_file_version = 2\r\n services = nss, pam\r\n",
-    )?;
-    text.extend_from_slice(
-        b"\tdomains = LDAP\r\n; domains = A, B\r\n\r\n[nss]\r\nfilter_users = root , , daemon\r\npwfield =\r\n",
-    )?;
-    text.extend_from_slice(
-        b"[domain/LDAP]\r\nid_provider = ldap\r\nldap_uri = ldap://a:3890, ldap://b/\r\n",
-    )?;
-    text.extend_from_slice(
-        b"ldap_search_base = ou=x = y,dc=test\r\nentry_cache_timeout = 1\r\nentry_cache_timeout = 600\r\n",
-    )?;
-    text.extend_from_slice(
-        b"[domain/OTHER]\r\nid_provider = files\r\n[domain/LDAP]\r\nentry_cache_user_timeout = 30\r\nenumerate = true",
-    )?;
-    let config = read_conf(rt.alloc(), &text)?;
+    let config = read_conf(rt.alloc(), COMMENTED.as_bytes())?;
     assert_eq!(rt; config.settings.user_timeout, 30);
     assert_eq!(rt; config.settings.group_timeout, 600);
     assert_eq!(rt; config.settings.filter_users.len(), 2);
     assert_eq!(rt; config.unknown, 1);
     assert!(rt; is_text(&config.pwfield, ""));
     assert!(rt; is_text(&config.base, "ou=x = y,dc=test"));
-    let mut servers = config.servers.items().iter();
-    let Some(first) = servers.next() else {
-        return Err(Fail::from("no server"));
-    };
-    let Some(second) = servers.next() else {
-        return Err(Fail::from("no second server"));
+    let [first, second] = config.servers.items() else {
+        return Err(Fail::from("not two servers"));
     };
     assert!(rt; is_text(&first.host, "a") && first.port == 3890);
     assert!(rt; is_text(&second.host, "b") && second.port == 389);

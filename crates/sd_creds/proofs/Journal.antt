@@ -3,7 +3,6 @@ use Rattle.std.proofs.Common.{◌≡◌, ◌+◌, ◌==◌, ℕ, Bool, true, fal
 use Rattle.std.specs.Option.{option_map}
 use Rattle.sd_rules.specs.declared.settings.Settings.{Settings}
 use Rattle.sd_rules.specs.declared.replies.Entry.{Entry}
-use Rattle.sd_rules.specs.declared.replies.Verdict.{Verdict}
 use Rattle.sd_rules.specs.Logins as logins
 use Rattle.sd_creds.specs.declared.limits.Login.{Login}
 use Rattle.sd_creds.specs.declared.marks.Mark.{Mark}
@@ -12,16 +11,6 @@ use Rattle.sd_creds.specs.Marks as marked
 use Rattle.sd_creds.specs.Marks.{IsMarkOf, mark_after, mark_in, login_after, hash_after}
 
 module _ (s : Settings) (t : ℕ) (past : List Entry) (user : List ℕ) (m : Mark) (is : IsMarkOf past user m) where
-  block : marked.block_of s t m ≡ logins.block_of s past t user
-  block =
-      ap (λ (w : ℕ). cond (logins.is_at_limit s w) (logins.block_until s t m.last_wrong) None) (sym is.wrong_count)
-      ∙ ap (λ (last : Option ℕ). cond (logins.is_at_limit s (logins.wrong_count past user)) (logins.block_until s t last) None) (sym is.last_wrong)
-
-  verdict_by : (login : Option logins.Login) (named : ℕ) (right : Bool) → marked.verdict_by_hash s t m login named right ≡ logins.verdict_by_hash s past t user login named right
-  verdict_by None named right = refl
-  verdict_by (Some l) named right =
-      ap (λ (b : Option Verdict). cond (logins.is_expired s t l) (Verdict.Expired (logins.expiry_of s l)) (logins.verdict_unless_blocked b l named right)) block
-
   pub usable_hash_of_journal : marked.usable_hash s m ≡ logins.usable_hash s past user
   usable_hash_of_journal = ap (λ (o : Option logins.Login). cond s.cache_credentials o None) (sym is.hash)
 
@@ -31,8 +20,9 @@ module _ (s : Settings) (t : ℕ) (past : List Entry) (user : List ℕ) (m : Mar
 
   pub verdict_of_journal : (named : ℕ) (right : Bool) → marked.verdict_of s t m named right ≡ logins.verdict_of s past t user named right
   verdict_of_journal named right =
-      ap (λ (o : Option logins.Login). marked.verdict_by_hash s t m o named right) usable_hash_of_journal
-      ∙ verdict_by (logins.usable_hash s past user) named right
+      ap (λ (o : Option logins.Login). logins.verdict_by_hash s t m.wrong_count m.last_wrong o named right) usable_hash_of_journal
+      ∙ ap (λ (w : ℕ). logins.verdict_by_hash s t w m.last_wrong (logins.usable_hash s past user) named right) (sym is.wrong_count)
+      ∙ ap (λ (last : Option ℕ). logins.verdict_by_hash s t (logins.wrong_count past user) last (logins.usable_hash s past user) named right) (sym is.last_wrong)
 
   pub cached_login_of_journal : marked.cached_login s t m ≡ logins.cached_login s past t user
   cached_login_of_journal =

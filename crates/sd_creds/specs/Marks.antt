@@ -5,7 +5,6 @@ use Rattle.std.specs.Option.{option_map}
 use Rattle.sd_rules.specs.declared.settings.Settings.{Settings}
 use Rattle.sd_rules.specs.declared.replies.Entry.{Entry}
 use Rattle.sd_rules.specs.declared.replies.Verdict.{Verdict}
-use Rattle.sd_rules.specs.declared.replies.Verdict.TheVariants as verdicts
 use Rattle.sd_rules.specs.Keys.{same_name}
 use Rattle.sd_rules.specs.Logins as logins
 use Rattle.sd_creds.specs.declared.limits.Login.{Login}
@@ -51,19 +50,9 @@ with_accept m = record m { wrong_count = 0 }
 abbrev pub usable_hash : Settings → Mark → Option logins.Login
 usable_hash s m = if s.cache_credentials then option_map seen.login m.hash else None
 
--- the block that stands
-abbrev pub block_of : Settings → ℕ → Mark → Option Verdict
-block_of s t m = if logins.is_at_limit s m.wrong_count then logins.block_until s t m.last_wrong else None
-
-abbrev pub verdict_by_hash : Settings → ℕ → Mark → Option logins.Login → ℕ → Bool → Verdict
-verdict_by_hash s t m None named right = verdicts.Unknown
-verdict_by_hash s t m (Some l) named right =
-    if logins.is_expired s t l then verdicts.Expired (logins.expiry_of s l)
-    else logins.verdict_unless_blocked (block_of s t m) l named right
-
 -- the verdict on a guess: the first case that holds
 abbrev pub verdict_of : Settings → ℕ → Mark → ℕ → Bool → Verdict
-verdict_of s t m named right = verdict_by_hash s t m (usable_hash s m) named right
+verdict_of s t m named right = logins.verdict_by_hash s t m.wrong_count m.last_wrong (usable_hash s m) named right
 
 -- the last online login, where it carries a hash and hashes are used
 abbrev pub usable_login : Settings → Mark → Option logins.Login

@@ -45,7 +45,7 @@ fn expiry_of(settings: &Settings, login: Login) -> u128
 }
 
 /// The expiry of a login's hash, where it has passed.
-pub fn expired(settings: &Settings, t: u64, login: Login) -> Option<u64>
+fn expired(settings: &Settings, t: u64, login: Login) -> Option<u64>
     ensures { result ≡ (if logins.is_expired settings.now t (seen.login login) then Some (logins.expiry_of settings.now (seen.login login)) else None) }
 {
     let expiry = expiry_of(settings, login);
@@ -57,7 +57,7 @@ pub fn expired(settings: &Settings, t: u64, login: Login) -> Option<u64>
 }
 
 /// Whether so many wrong guesses block.
-pub fn is_at_limit(settings: &Settings, wrong: u64) -> bool
+fn is_at_limit(settings: &Settings, wrong: u64) -> bool
     ensures { result ≡ logins.is_at_limit settings.now wrong }
 {
     if settings.attempts == 0 || wrong == 0 {
@@ -67,7 +67,7 @@ pub fn is_at_limit(settings: &Settings, wrong: u64) -> bool
 }
 
 /// The block by a wrong guess at a moment, where it stands at t.
-pub fn block_until(settings: &Settings, t: u64, wrong: Option<u64>) -> Option<Verdict>
+fn block_until(settings: &Settings, t: u64, wrong: Option<u64>) -> Option<Verdict>
     ensures { result ≡ logins.block_until settings.now t wrong }
 {
     let wrong = wrong?;
@@ -83,7 +83,7 @@ pub fn block_until(settings: &Settings, t: u64, wrong: Option<u64>) -> Option<Ve
 }
 
 /// The verdict where nothing but the hash that was compared and the guess count.
-pub fn verdict_by_guess(login: Login, named: u64, right: bool) -> Verdict
+fn verdict_by_guess(login: Login, named: u64, right: bool) -> Verdict
     ensures { result ≡ logins.verdict_by_guess (seen.login login) named right }
 {
     if login.number != named {
@@ -96,17 +96,47 @@ pub fn verdict_by_guess(login: Login, named: u64, right: bool) -> Verdict
 }
 
 /// The same, where no block stands.
-pub fn verdict_unless_blocked(
-    block: Option<Verdict>,
-    login: Login,
-    named: u64,
-    right: bool,
-) -> Verdict
+fn verdict_unless_blocked(block: Option<Verdict>, login: Login, named: u64, right: bool) -> Verdict
     ensures { result ≡ logins.verdict_unless_blocked block (seen.login login) named right }
 {
     match block {
         Some(verdict) => verdict,
         None => verdict_by_guess(login, named, right),
+    }
+}
+
+/// The block that so many wrong guesses, of which the last was at a moment, bring at t.
+fn block_of(settings: &Settings, t: u64, wrongs: u64, last_wrong: Option<u64>) -> Option<Verdict>
+    ensures { result ≡ logins.block_of settings.now t wrongs last_wrong }
+{
+    if is_at_limit(settings, wrongs) {
+        block_until(settings, t, last_wrong)
+    } else {
+        None
+    }
+}
+
+/// The verdict by the hash entry, the wrong guesses and the moment of the last of them.
+pub fn verdict_by_hash(
+    settings: &Settings,
+    t: u64,
+    wrongs: u64,
+    last_wrong: Option<u64>,
+    login: Option<Login>,
+    named: u64,
+    right: bool,
+) -> Verdict
+    ensures { result ≡ logins.verdict_by_hash settings.now t wrongs last_wrong (option_map seen.login login) named right }
+{
+    match login {
+        Some(l) => match expired(settings, t, l) {
+            Some(expiry) => Verdict::Expired(expiry),
+            None => {
+                let block = block_of(settings, t, wrongs, last_wrong);
+                verdict_unless_blocked(block, l, named, right)
+            }
+        },
+        None => Verdict::Unknown,
     }
 }
 

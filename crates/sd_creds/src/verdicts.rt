@@ -4,10 +4,7 @@ ghost use Rattle.std.specs.Option.{option_map};
 ghost use Rattle.sd_creds.specs.Marks as marked;
 ghost use Rattle.sd_creds.specs.Seen as seen;
 
-use crate::limits::{
-    Login, block_until, expired, is_at_limit, only_hashed, still_cached, verdict_by_login,
-    verdict_unless_blocked,
-};
+use crate::limits::{Login, only_hashed, still_cached, verdict_by_hash, verdict_by_login};
 use crate::marks::Mark;
 use sd_rules::{Settings, Verdict};
 
@@ -21,40 +18,19 @@ fn usable_hash(settings: &Settings, mark: &Mark) -> Option<Login>
     }
 }
 
-fn block_of(settings: &Settings, t: u64, mark: &Mark) -> Option<Verdict>
-    ensures { result ≡ marked.block_of settings.now t mark.now }
-{
-    if is_at_limit(settings, mark.wrong_count) {
-        block_until(settings, t, mark.last_wrong)
-    } else {
-        None
-    }
-}
-
-fn verdict_by_hash(
-    settings: &Settings,
-    t: u64,
-    mark: &Mark,
-    login: Option<Login>,
-    named: u64,
-    right: bool,
-) -> Verdict
-    ensures { result ≡ marked.verdict_by_hash settings.now t mark.now (option_map seen.login login) named right }
-{
-    match login {
-        Some(l) => match expired(settings, t, l) {
-            Some(expiry) => Verdict::Expired(expiry),
-            None => verdict_unless_blocked(block_of(settings, t, mark), l, named, right),
-        },
-        None => Verdict::Unknown,
-    }
-}
-
 /// The verdict on a guess.
 pub fn verdict_of(settings: &Settings, t: u64, mark: &Mark, named: u64, right: bool) -> Verdict
     ensures { result ≡ marked.verdict_of settings.now t mark.now named right }
 {
-    verdict_by_hash(settings, t, mark, usable_hash(settings, mark), named, right)
+    verdict_by_hash(
+        settings,
+        t,
+        mark.wrong_count,
+        mark.last_wrong,
+        usable_hash(settings, mark),
+        named,
+        right,
+    )
 }
 
 /// The last online login, where it carries a hash and hashes are used.

@@ -1,5 +1,5 @@
 -- The output of one line, and then of the others.
-use Rattle.std.proofs.Common.{◌≡◌, ℕ, Bool, true, List, ◌∷◌, ◌++◌, Result, Ok, Err, append_assoc, ap, sym, subst, refl, ◌∙◌}
+use Rattle.std.proofs.Common.{◌≡◌, ℕ, true, List, ◌∷◌, ◌++◌, Result, Ok, Err, append_assoc, ap, sym, subst, refl, ◌∙◌}
 use Rattle.sd_scenario.specs.declared.lines.Line.{Line}
 use Rattle.sd_scenario.specs.declared.world.World.{World}
 use Rattle.sd_scenario.specs.Lines.{line_of}
