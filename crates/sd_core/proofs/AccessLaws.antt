@@ -1,19 +1,14 @@
 -- A rule that an account check names grants, and where none is named none matches.
 use Rattle.std.proofs.Common.{◌≡◌, ℕ, Bool, true, false, List, refl, ap, ◌∙◌, subst, sym}
-use Rattle.std.specs.Prelude.{Option, Some, None, IfSome, IfNone, if◌then◌else◌}
+use Rattle.std.specs.Prelude.{Option, Some, None, IfSome, IfNone}
 use Rattle.sd_rules.specs.declared.keys.Key.TheVariants as keys
 use Rattle.sd_rules.specs.declared.records.Answered.{Answered}
 use Rattle.sd_rules.specs.declared.records.Answered.TheVariants.{Found, Absent}
-use Rattle.sd_rules.specs.declared.records.Record.{Record}
 use Rattle.sd_rules.specs.declared.records.Record.TheVariants as records
 use Rattle.sd_rules.specs.declared.records.RuleBook.{RuleBook}
 use Rattle.sd_rules.specs.declared.events.Event.{Event}
 use Rattle.sd_rules.specs.declared.events.Event.TheVariants as events
-use Rattle.sd_rules.specs.declared.replies.By.TheVariants as by
-use Rattle.sd_rules.specs.declared.replies.NotBy.TheVariants as not_by
 use Rattle.sd_rules.specs.declared.replies.Entry.{Entry}
-use Rattle.sd_rules.specs.declared.replies.Reply.{Reply}
-use Rattle.sd_rules.specs.declared.replies.Reply.TheVariants as replies
 use Rattle.sd_rules.specs.declared.settings.AccessMode.{AccessMode}
 use Rattle.sd_rules.specs.declared.settings.AccessMode.TheVariants.{Permit, Deny, Simple, Ipa}
 use Rattle.sd_rules.specs.declared.settings.Settings.{Settings}
@@ -22,7 +17,7 @@ use Rattle.sd_rules.specs.Access.{Asker, asker_of, granting_rule, simple_allows,
 use Rattle.sd_rules.specs.Steps.{reply_to}
 use Rattle.sd_hbac.specs.Grants.{Grants, NoneMatches}
 use Rattle.sd_hbac.proofs.Least.{granting_grants, none_matches}
-use Rattle.sd_core.specs.Laws.{IsGrantedByRule, IsDeniedByRules, AccessNames, GoesByRules}
+use Rattle.sd_core.specs.Laws.{IsDeniedByRules, AccessNames, GoesByRules}
 
 same_book : (a b : RuleBook) → Found (records.Rules a) ≡ Found (records.Rules b) → a ≡ b
 same_book a b e = cc

@@ -1,6 +1,6 @@
 -- Only a question joins a request, and it joins the one that is open for its key.
-use Rattle.std.proofs.Common.{◌≡◌, ℕ, Bool, true, false, List, [], ◌∷◌, refl, sym, subst, ap, ◌∙◌}
-use Rattle.std.specs.Prelude.{Option, Some, None, not, ◌==◌, ◌&&◌, ◌||◌, if◌then◌else◌}
+use Rattle.std.proofs.Common.{◌≡◌, ℕ, Bool, true, false, List, refl}
+use Rattle.std.specs.Prelude.{Option, Some, None, not, ◌&&◌, if◌then◌else◌}
 use Rattle.sd_rules.specs.declared.keys.Key.{Key}
 use Rattle.sd_rules.specs.declared.keys.Key.TheVariants as keys
 use Rattle.sd_rules.specs.declared.records.Answered.{Answered}
@@ -20,9 +20,9 @@ use Rattle.sd_rules.specs.Past.{Standing, newest, outage_at, key_asked, key_of}
 use Rattle.sd_rules.specs.Requests.{joined, open_for, is_open, is_open_request, is_open_attempt, outcome_of, waits_for}
 use Rattle.sd_rules.specs.Servers.{picked_server, was_picked}
 use Rattle.sd_rules.specs.Answers.{is_found, is_fresh, is_filtered, is_past_midpoint, is_renewable, reply_in_outage, reply_by_request, reply_unless_fresh, reply_if_fresh, reply_by_newest, reply_to_ask}
-use Rattle.sd_rules.specs.Logins.{Login, user_of, usable_hash, cached_login, verdict_of, verdict_of_try}
-use Rattle.sd_rules.specs.Access.{Asker, asker_of, granting_rule, simple_allows, user_groups, reply_by_rule, reply_by_book, reply_by_rules, reply_by_lists, access_by}
-use Rattle.sd_rules.specs.Steps.{reply_to, reply_to_answer, reply_by_void, void_since, reply_by_pick, reply_to_outage, reply_to_closing_outage, outcome_in_outage, reply_to_collect, reply_to_leave, reply_to_login, reply_by_cached, reply_to_look, reply_to_try}
+use Rattle.sd_rules.specs.Logins.{Login, user_of, usable_hash, cached_login}
+use Rattle.sd_rules.specs.Access.{Asker, asker_of, granting_rule, simple_allows, user_groups, reply_by_rule, reply_by_book, reply_by_rules, access_by}
+use Rattle.sd_rules.specs.Steps.{reply_to, reply_to_answer, reply_by_void, void_since, reply_by_pick, reply_to_outage, outcome_in_outage, reply_to_collect, reply_to_leave, reply_to_login, reply_by_cached, reply_to_look, reply_to_try}
 use Rattle.sd_core.proofs.LawProofs.{pick_law}
 
 -- a reply joins nothing
@@ -153,7 +153,7 @@ has_joined s past number t (events.Pick n) r e =
 has_joined s past number t (events.Fall n i why) r e =
     no_join past (events.Fall n i why) (reply_to s past number t (events.Fall n i why)) r
     (pick_none (is_open past n) (if was_picked past n i then replies.Noted else replies.NotPicked) replies.NoRequest
-      (pick_none (was_picked past n i) replies.Noted replies.NotPicked refl refl) refl) e
+    (pick_none (was_picked past n i) replies.Noted replies.NotPicked refl refl) refl) e
 has_joined s past number t (events.Answer n answered) r e =
     no_join past (events.Answer n answered) (reply_to s past number t (events.Answer n answered)) r
     (pick_none (is_open_request past n) (reply_to_answer past n (key_of past n) answered) replies.NoRequest (answer_joins past n (key_of past n) answered) refl) e

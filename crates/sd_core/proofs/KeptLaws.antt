@@ -1,15 +1,14 @@
 -- Every step keeps what holds of a kept journal, and follows the laws.
-use Rattle.std.proofs.Common.{◌≡◌, ℕ, ◌+◌, Bool, true, false, List, [], ◌∷◌, arith, refl, sym, subst}
-use Rattle.std.specs.Prelude.{nat_lt, ◌&&◌, Result, Ok, Err, OnOk, OnErr, IfOk}
+use Rattle.std.proofs.Common.{◌≡◌, ℕ, ◌+◌, true, [], ◌∷◌, arith, refl, sym, subst}
+use Rattle.std.specs.Prelude.{nat_lt, Result, Ok, Err, OnOk, OnErr, IfOk}
 use Rattle.std.proofs.lemmas.Bool.Decides.{nat_tests}
 use Rattle.sd_rules.specs.declared.events.Event.{Event}
-use Rattle.sd_rules.specs.declared.replies.Entry.{Entry}
 use Rattle.sd_rules.specs.declared.replies.Given.{Given}
 use Rattle.sd_rules.specs.declared.replies.Refused.{Refused}
 use Rattle.sd_rules.specs.declared.settings.Settings.{Settings}
 use Rattle.sd_rules.specs.Steps.{Daemon, next_number, moment_of, entry_made, after, given, is_steppable}
 use Rattle.sd_core.specs.Sound.{falls_from}
-use Rattle.sd_core.specs.Laws.{HasOneOpen, KeepsOutcomes, FollowsLaws, IsKept}
+use Rattle.sd_core.specs.Laws.{KeepsOutcomes, FollowsLaws, IsKept}
 use Rattle.sd_core.proofs.Room.{next_is_above}
 use Rattle.sd_core.proofs.KindLaws.{kinds_after, both_hold}
 use Rattle.sd_core.proofs.NamedLaws.{given_fits}

@@ -1,6 +1,6 @@
 -- Every answer of a journal is of its key's kind, and the newest answer of a key is of that key's kind.
-use Rattle.std.proofs.Common.{◌≡◌, ℕ, ◌+◌, ◌≤◌, ◌<◌, Bool, true, false, List, [], ◌∷◌, arith, refl, sym, subst, ap, inl, inr, ◌∙◌}
-use Rattle.std.specs.Prelude.{Option, Some, None, cond, not, nat_lt, ◌⊎◌, ◌==◌, ◌&&◌, ◌||◌, if◌then◌else◌}
+use Rattle.std.proofs.Common.{◌≡◌, ℕ, ◌<◌, Bool, true, false, List, [], ◌∷◌, arith, refl, subst, ap, inl, inr, ◌∙◌}
+use Rattle.std.specs.Prelude.{Option, Some, None, not, nat_lt, ◌⊎◌, ◌==◌, ◌&&◌, ◌||◌, if◌then◌else◌}
 use Rattle.std.proofs.lemmas.Bool.Decides.{nat_tests}
 use Rattle.sd_rules.specs.declared.keys.Key.{Key}
 use Rattle.sd_rules.specs.declared.keys.Key.TheVariants as keys
@@ -51,8 +51,9 @@ same_kind a b h =
 either_kind : (found : Record) (a b k : Key) → is_of_kind found a ≡ true → is_of_kind found b ≡ true → (same_key a k || same_key b k) ≡ true → is_of_kind found k ≡ true
 either_kind found a b k f g h =
     elim (one_holds (same_key a k) (same_key b k) h) [
-      inl x ↦ kind_only found a k (same_kind a k x) f
-    | inr y ↦ kind_only found b k (same_kind b k y) g ]
+      | inl x ↦ kind_only found a k (same_kind a k x) f
+      | inr y ↦ kind_only found b k (same_kind b k y) g
+    ]
 
 -- a record speaks of keys of its kind
 record_speaks_kind : (found : Record) (k : Key) → record_speaks found k ≡ true → is_of_kind found k ≡ true
@@ -67,8 +68,9 @@ speaks_kind : (own k : Key) (answered : Answered) → is_answer_of_kind answered
 speaks_kind own k Absent f h = refl
 speaks_kind own k (Found found) f h =
     elim (one_holds (same_key own k) (record_speaks found k) h) [
-      inl x ↦ kind_only found own k (same_kind own k x) f
-    | inr y ↦ record_speaks_kind found k y ]
+      | inl x ↦ kind_only found own k (same_kind own k x) f
+      | inr y ↦ record_speaks_kind found k y
+    ]
 
 -- the newest answer, as one that is there or not, is of the kind of the key
 abbrev pub is_kind_for : Key → Option Standing → Bool

@@ -1,24 +1,22 @@
 -- The laws of every step, from the reply's definition.
-use Rattle.std.proofs.Common.{◌≡◌, ◌≢◌, ℕ, ◌+◌, ◌-◌, ◌*◌, ◌%◌, ◌^◌, ◌≤◌, ◌<◌, Bool, true, false, List, [], ◌∷◌, arith, refl, sym, subst, ap, ◌∙◌, min}
-use Rattle.std.specs.Prelude.{Option, Some, None, cond, not, nat_lt, nat_le, ◌==◌, ◌&&◌, ◌||◌, if◌then◌else◌}
-use Rattle.std.proofs.lemmas.Grind.{common_steps}
+use Rattle.std.proofs.Common.{◌≡◌, ◌≢◌, ℕ, ◌+◌, ◌-◌, ◌*◌, ◌%◌, ◌^◌, ◌≤◌, Bool, true, false, List, [], ◌∷◌, arith, refl, sym, subst, ◌∙◌, min}
+use Rattle.std.specs.Prelude.{Option, Some, None, not, nat_lt, ◌==◌, ◌&&◌, if◌then◌else◌}
 use Rattle.std.proofs.lemmas.Bool.Decides.{nat_tests}
 use Rattle.sd_rules.specs.declared.keys.Key.{Key}
 use Rattle.sd_rules.specs.declared.events.Event.{Event}
 use Rattle.sd_rules.specs.declared.events.Event.TheVariants as events
 use Rattle.sd_rules.specs.declared.replies.Entry.{Entry}
-use Rattle.sd_rules.specs.declared.replies.Outcome.{Outcome}
 use Rattle.sd_rules.specs.declared.replies.Reply.{Reply}
 use Rattle.sd_rules.specs.declared.replies.Reply.TheVariants as replies
 use Rattle.sd_rules.specs.declared.replies.Verdict.{Verdict}
 use Rattle.sd_rules.specs.declared.replies.Verdict.TheVariants as verdicts
 use Rattle.sd_rules.specs.declared.settings.Settings.{Settings}
 use Rattle.sd_rules.specs.Past.{Standing, newest, is_voided, outage_at}
-use Rattle.sd_rules.specs.Requests.{open_for, is_open, is_open_request, is_open_attempt, closes, outcome_of, outcome_by, waits_for}
+use Rattle.sd_rules.specs.Requests.{open_for}
 use Rattle.sd_rules.specs.Answers.{is_found, is_fresh, timeout_of, is_filtered, is_past_midpoint, is_renewable, reply_in_outage, reply_by_request, reply_unless_fresh, reply_if_fresh, reply_by_newest, reply_to_ask}
-use Rattle.sd_rules.specs.Logins.{Login, accepts, wrongs, wrong_count, last_wrong, is_at_limit, block_until, block_of, verdict_by_guess, verdict_unless_blocked, verdict_by_hash, verdict_of, usable_hash, is_expired, expiry_of}
-use Rattle.sd_rules.specs.Steps.{Daemon, next_number, moment_of, reply_to, entry_made}
-use Rattle.sd_core.specs.Laws.{IsFreshAnswer, AskNames, NamesFresh, KeepsOutcomes, IsAfterBlock, WrongNames, WaitsForBlock}
+use Rattle.sd_rules.specs.Logins.{Login, accepts, wrongs, wrong_count, last_wrong, is_at_limit, block_until, block_of, verdict_by_guess, verdict_unless_blocked, verdict_by_hash, usable_hash, is_expired, expiry_of}
+use Rattle.sd_rules.specs.Steps.{reply_to}
+use Rattle.sd_core.specs.Laws.{IsFreshAnswer, AskNames, NamesFresh, IsAfterBlock, WrongNames, WaitsForBlock}
 use Rattle.sd_core.proofs.Room.{false_is_not_true}
 use Rattle.sd_core.proofs.KindLaws.{first_holds, second_holds}
 
@@ -37,8 +35,8 @@ fresh_answer s past t k a n f = record {
   is_newest = n;
   named = refl;
   young =
-    let young = second_holds (not (is_voided past a)) (nat_lt (t - a.moment) (timeout_of s a)) f in
-    grind (arith, nat_tests, young);
+      let young = second_holds (not (is_voided past a)) (nat_lt (t - a.moment) (timeout_of s a)) f in
+      grind (arith, nat_tests, young);
   unvoided = not_true (is_voided past a) (first_holds (not (is_voided past a)) (nat_lt (t - a.moment) (timeout_of s a)) f);
 }
 
@@ -130,8 +128,10 @@ after_delay s past t user m is z l = record {
   where
     has_delay : s.delay_minutes ≢ 0
     has_delay = grind (arith, nat_tests, z)
+
     over : m + 60 * s.delay_minutes ≤ t
     over = grind (arith, nat_tests, l)
+
     same_moment : (m n : ℕ) → Some m ≡ Some n → m ≡ n
     same_moment m n e = cc
 
@@ -143,8 +143,8 @@ until_waits s past t user (Some m) l named right is w =
     (λ z b. guess_waits s past t user l named right (after_delay s past t user m is z b))
   where
     pick_block : (z b : Bool) (f g : Verdict) → Waits s past t user f → Waits s past t user g →
-      (z ≡ false → b ≡ false → Waits s past t user (verdict_by_guess l named right)) →
-      Waits s past t user (verdict_unless_blocked (if z then Some f else if b then Some g else None) l named right)
+        (z ≡ false → b ≡ false → Waits s past t user (verdict_by_guess l named right)) →
+        Waits s past t user (verdict_unless_blocked (if z then Some f else if b then Some g else None) l named right)
     pick_block true b f g h k r = h
     pick_block false true f g h k r = k
     pick_block false false f g h k r = r refl refl

@@ -1,13 +1,12 @@
 -- The record that is given for a question, or for an outage that closes a request, is of the kind of its key.
-use Rattle.std.proofs.Common.{◌≡◌, ℕ, Bool, true, false, List, [], ◌∷◌, refl, sym, subst, ap, ◌∙◌}
-use Rattle.std.specs.Prelude.{Option, Some, None, not, ◌==◌, ◌&&◌, ◌||◌, if◌then◌else◌}
+use Rattle.std.proofs.Common.{◌≡◌, ℕ, Bool, true, false, List, refl, ap, ◌∙◌}
+use Rattle.std.specs.Prelude.{Option, Some, None, not, ◌&&◌, if◌then◌else◌}
 use Rattle.sd_rules.specs.declared.keys.Key.{Key}
 use Rattle.sd_rules.specs.declared.records.Answered.{Answered}
 use Rattle.sd_rules.specs.declared.records.Answered.TheVariants.{Found, Absent}
 use Rattle.sd_rules.specs.declared.events.Event.{Event}
 use Rattle.sd_rules.specs.declared.events.Event.TheVariants as events
 use Rattle.sd_rules.specs.declared.replies.Entry.{Entry}
-use Rattle.sd_rules.specs.declared.replies.Outcome.{Outcome}
 use Rattle.sd_rules.specs.declared.replies.Outcome.TheVariants as outcomes
 use Rattle.sd_rules.specs.declared.replies.Reply.{Reply}
 use Rattle.sd_rules.specs.declared.replies.Reply.TheVariants as replies
@@ -17,7 +16,7 @@ use Rattle.sd_rules.specs.Past.{Standing, newest, outage_at, key_of}
 use Rattle.sd_rules.specs.Requests.{open_for, is_open, is_open_request, waits_for}
 use Rattle.sd_rules.specs.Servers.{picked_server}
 use Rattle.sd_rules.specs.Answers.{is_found, is_fresh, is_filtered, is_past_midpoint, is_renewable, reply_in_outage, reply_by_request, reply_unless_fresh, reply_if_fresh, reply_by_newest, reply_to_ask}
-use Rattle.sd_rules.specs.Steps.{Daemon, next_number, moment_of, reply_to, reply_to_collect, reply_to_outage, reply_to_closing_outage, outage_outcome, outcome_in_outage, answer_named, answer_named_by_outcome, event_named, record_in, record_in_answer, record_named, event_at, given}
+use Rattle.sd_rules.specs.Steps.{Daemon, next_number, moment_of, reply_to, reply_to_collect, reply_to_outage, outage_outcome, outcome_in_outage, answer_named, answer_named_by_outcome, event_named, record_in, record_in_answer, record_named, event_at, given}
 use Rattle.sd_core.specs.Sound.{holds_kinds, falls_from, is_of_kind_of, fits_key, found_fits}
 use Rattle.sd_core.proofs.KindLaws.{is_kind_for, newest_kind, Stood, newest_stood}
 

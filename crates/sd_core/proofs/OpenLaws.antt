@@ -1,7 +1,6 @@
 -- At most one request is open for a key, and the outcome of what is closed stays.
-use Rattle.std.proofs.Common.{◌≡◌, ℕ, ◌+◌, Bool, true, false, List, [], ◌∷◌, arith, refl, sym, subst, ap, ◌∙◌}
-use Rattle.std.specs.Prelude.{Option, Some, None, cond, not, nat_lt, ◌==◌, ◌&&◌, ◌||◌, if◌then◌else◌}
-use Rattle.std.proofs.lemmas.Grind.{common_steps}
+use Rattle.std.proofs.Common.{◌≡◌, ℕ, Bool, true, false, List, [], ◌∷◌, arith, refl, sym, subst, ◌∙◌}
+use Rattle.std.specs.Prelude.{Option, Some, None, cond, not, ◌==◌, ◌&&◌, ◌||◌, if◌then◌else◌}
 use Rattle.std.proofs.lemmas.Bool.Decides.{nat_tests}
 use Rattle.sd_rules.specs.declared.keys.Key.{Key}
 use Rattle.sd_rules.specs.declared.events.Event.{Event}
@@ -18,7 +17,6 @@ use Rattle.sd_rules.specs.Servers.{picked_server}
 use Rattle.sd_rules.specs.Logins.{user_of}
 use Rattle.sd_rules.specs.Answers.{is_found, is_fresh, is_filtered, is_past_midpoint, is_renewable, reply_in_outage, reply_by_request, reply_unless_fresh, reply_if_fresh, reply_by_newest, reply_to_ask}
 use Rattle.sd_rules.specs.Steps.{Daemon, next_number, moment_of, reply_to, reply_to_answer, reply_to_outage, reply_to_try, entry_made}
-use Rattle.sd_core.specs.Sound.{falls_from}
 use Rattle.sd_core.specs.Laws.{HasOneOpen, KeepsOutcomes}
 use Rattle.sd_core.proofs.Room.{false_is_not_true, same_number}
 use Rattle.sd_core.proofs.KindLaws.{first_holds, second_holds}
@@ -134,8 +132,8 @@ fresh_leads s number t a outage running =
     (if is_past_midpoint s t a && is_renewable outage running then replies.Refresh a.number number else replies.Fresh a.number)
     (λ _ h. absurd (false_is_not_true h))
     (λ _. pick_law (Leads running) (is_past_midpoint s t a && is_renewable outage running) (replies.Refresh a.number number) (replies.Fresh a.number)
-      (λ c _. renewable_none outage running (second_holds (is_past_midpoint s t a) (is_renewable outage running) c))
-      (λ _ h. absurd (false_is_not_true h)))
+    (λ c _. renewable_none outage running (second_holds (is_past_midpoint s t a) (is_renewable outage running) c))
+    (λ _ h. absurd (false_is_not_true h)))
 
 newest_leads : (s : Settings) (past : List Entry) (number t : ℕ) (x : Option Standing) (outage running : Option ℕ) → Leads running (reply_by_newest s past number t x outage running)
 newest_leads s past number t None outage running = stale_leads number None outage running

@@ -1,15 +1,10 @@
 -- Places: a step reserves at most one more, and one that gives a place back reserves one less.
-use Rattle.std.proofs.Common.{◌≡◌, ℕ, ◌+◌, ◌-◌, ◌*◌, ◌^◌, ◌≤◌, ◌<◌, Bool, true, false, List, [], ◌∷◌, arith, refl, sym, subst, max}
-use Rattle.std.specs.Prelude.{Option, Some, None, cond, is_some, nat_lt, ◌==◌, ◌&&◌, ◌||◌, if◌then◌else◌}
-use Rattle.std.specs.List.{list_any}
+use Rattle.std.proofs.Common.{◌≡◌, ℕ, ◌+◌, ◌≤◌, Bool, true, false, List, [], ◌∷◌, arith, refl, sym, subst}
+use Rattle.std.specs.Prelude.{Option, Some, None, cond, is_some, ◌==◌, ◌||◌, if◌then◌else◌}
 use Rattle.std.proofs.lemmas.Grind.{common_steps}
 use Rattle.std.proofs.lemmas.Bool.Decides.{nat_tests}
-use Rattle.sd_rules.specs.declared.events.Event.{Event}
-use Rattle.sd_rules.specs.declared.events.Event.TheVariants as events
 use Rattle.sd_rules.specs.declared.replies.Entry.{Entry}
-use Rattle.sd_rules.specs.declared.replies.Reply.{Reply}
-use Rattle.sd_rules.specs.declared.replies.Reply.TheVariants as replies
-use Rattle.sd_rules.specs.Requests.{unclosed, closes, opens_request, opens_attempt, has_opened_request, has_opened_attempt, is_lead, is_bind, is_open, waits_for, ends_waiting, joined, reserves, reserved_among, reserved_places}
+use Rattle.sd_rules.specs.Requests.{unclosed, closes, opens_request, opens_attempt, has_opened_request, has_opened_attempt, is_open, waits_for, ends_waiting, joined, reserves, reserved_among, reserved_places}
 use Rattle.sd_rules.specs.Steps.{number_after}
 use Rattle.sd_core.specs.Sound.{falls_from}
 

@@ -1,7 +1,6 @@
 -- A step that is not refused as full keeps the journal sound.
-use Rattle.std.proofs.Common.{◌≡◌, ℕ, ◌+◌, ◌-◌, ◌*◌, ◌^◌, ◌≤◌, ◌<◌, Bool, true, false, List, [], ◌∷◌, arith, refl, sym, subst, inl, inr}
+use Rattle.std.proofs.Common.{◌≡◌, ℕ, ◌+◌, ◌-◌, ◌*◌, ◌^◌, ◌≤◌, Bool, true, false, List, [], ◌∷◌, arith, refl, sym, subst, inl, inr}
 use Rattle.std.specs.Prelude.{Option, Some, None, cond, is_some, not, nat_lt, ◌⊎◌, ◌==◌, ◌&&◌, ◌||◌, if◌then◌else◌}
-use Rattle.std.proofs.lemmas.Grind.{common_steps}
 use Rattle.std.proofs.lemmas.Bool.Decides.{nat_tests}
 use Rattle.sd_rules.specs.declared.events.Event.{Event}
 use Rattle.sd_rules.specs.declared.events.Event.TheVariants as events
@@ -11,7 +10,7 @@ use Rattle.sd_rules.specs.declared.replies.Reply.{Reply}
 use Rattle.sd_rules.specs.declared.replies.Reply.TheVariants as replies
 use Rattle.sd_rules.specs.declared.settings.Settings.{Settings}
 use Rattle.sd_rules.specs.Requests.{unclosed, closes, opens_request, opens_attempt, has_opened_request, has_opened_attempt, is_lead, is_bind, is_open, is_open_request, is_took, waits_for, ends_waiting, joined, reserves, reserved_places, outcome_of}
-use Rattle.sd_rules.specs.Steps.{Daemon, number_after, next_number, moment_of, reply_to, reply_to_collect, reply_to_leave, entry_made, recorded, after, gives_back, full_count, is_full, lacks_places, lacks_text, lacks_numbers}
+use Rattle.sd_rules.specs.Steps.{Daemon, next_number, moment_of, reply_to, reply_to_collect, reply_to_leave, entry_made, recorded, after, gives_back, is_full, lacks_places, lacks_text, lacks_numbers}
 use Rattle.sd_rules.specs.TextBytes.{text_bytes, bytes_of_event}
 use Rattle.sd_core.specs.Sound.{falls_from, IsSound}
 use Rattle.sd_core.proofs.Room.{next_is_above, one_more, given_back, reserves_nothing, neither, same_number, false_is_not_true}

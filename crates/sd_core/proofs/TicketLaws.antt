@@ -1,5 +1,5 @@
 -- A ticket that waits is for a request of its own key's kind, and what it takes is of that kind.
-use Rattle.std.proofs.Common.{◌≡◌, ℕ, ◌+◌, ◌<◌, ◌≤◌, Bool, true, false, List, [], ◌∷◌, arith, refl, sym, subst, ap, ◌∙◌, inl, inr}
+use Rattle.std.proofs.Common.{◌≡◌, ℕ, ◌+◌, ◌<◌, Bool, true, false, List, [], ◌∷◌, arith, refl, sym, subst, ap, ◌∙◌, inl, inr}
 use Rattle.std.specs.Prelude.{Option, Some, None, cond, not, nat_lt, ◌⊎◌, ◌==◌, ◌&&◌, ◌||◌, if◌then◌else◌}
 use Rattle.std.proofs.lemmas.Bool.Decides.{nat_tests}
 use Rattle.sd_rules.specs.declared.keys.Key.{Key}
@@ -14,9 +14,9 @@ use Rattle.sd_rules.specs.declared.replies.Outcome.TheVariants as outcomes
 use Rattle.sd_rules.specs.declared.replies.Reply.{Reply}
 use Rattle.sd_rules.specs.declared.replies.Reply.TheVariants as replies
 use Rattle.sd_rules.specs.declared.settings.Settings.{Settings}
-use Rattle.sd_rules.specs.Keys.{kind_of, same_key, is_of_kind}
+use Rattle.sd_rules.specs.Keys.{kind_of, is_of_kind}
 use Rattle.sd_rules.specs.Past.{Standing, is_closed, is_shut, newest, key_asked, key_of}
-use Rattle.sd_rules.specs.Requests.{unclosed, closes, opens_request, opens_attempt, has_opened_request, has_opened_attempt, is_open, is_open_request, is_open_attempt, asks_for, open_among, open_for, ends_waiting, joined, waits_for, answered_outcome, shut_outcome, outcome_by, outcome_of}
+use Rattle.sd_rules.specs.Requests.{unclosed, closes, opens_request, opens_attempt, has_opened_request, has_opened_attempt, is_open, is_open_request, is_open_attempt, asks_for, open_among, ends_waiting, joined, waits_for, answered_outcome, shut_outcome, outcome_by, outcome_of}
 use Rattle.sd_rules.specs.Servers.{picked_server}
 use Rattle.sd_rules.specs.Steps.{Daemon, next_number, moment_of, reply_to, reply_to_collect, reply_to_outage, outcome_in_outage, outage_outcome, entry_made, answers_kind, is_steppable, event_at, event_named, record_in, record_of, record_named, answer_named_by_outcome}
 use Rattle.sd_core.specs.Sound.{falls_from, holds_kinds, is_of_kind_of, fits_key}
@@ -24,7 +24,7 @@ use Rattle.sd_core.specs.Laws.{HasFitTickets, outcome_record}
 use Rattle.sd_core.proofs.Room.{false_is_not_true, same_number, next_is_above}
 use Rattle.sd_core.proofs.KindLaws.{first_holds, second_holds, kind_only, same_kind, Below, newest_below}
 use Rattle.sd_core.proofs.NamedLaws.{Names, outcome_names, closing_fits}
-use Rattle.sd_core.proofs.OpenLaws.{request_before, key_before, keeps_outcomes, closes_open}
+use Rattle.sd_core.proofs.OpenLaws.{request_before, key_before, keeps_outcomes}
 use Rattle.sd_core.proofs.JoinLaws.{HasJoined, has_joined}
 
 -- the kind of a record, where there is one, asks only for the kind of the key
@@ -47,16 +47,18 @@ running_below : (n : ℕ) (all past : List Entry) (k : Key) (r : ℕ) → falls_
 running_below n all [] k r h e = absurd (none_is_not r e)
 running_below n all (x ∷ past) k r h e =
     elim (chosen_some (asks_for x.event k && is_open_request all x.number) x.number (open_among all past k) r e) [
-      inl p ↦ (let below : x.number < n = grind (arith, nat_tests, h) in subst (λ m. m < n) p.1 below)
-    | inr p ↦ (let rest = running_below x.number all past k r (second_holds (nat_lt x.number n) (falls_from x.number past) h) p.1 in
-               let below : x.number < n = grind (arith, nat_tests, h) in omega arith) ]
+      | inl p ↦ (let below : x.number < n = grind (arith, nat_tests, h) in subst (λ m. m < n) p.1 below)
+      | inr p ↦ (let rest = running_below x.number all past k r (second_holds (nat_lt x.number n) (falls_from x.number past) h) p.1 in
+          let below : x.number < n = grind (arith, nat_tests, h) in omega arith)
+    ]
 
 running_open : (all past : List Entry) (k : Key) (r : ℕ) → open_among all past k ≡ Some r → is_open_request all r ≡ true
 running_open all [] k r e = absurd (none_is_not r e)
 running_open all (x ∷ past) k r e =
     elim (chosen_some (asks_for x.event k && is_open_request all x.number) x.number (open_among all past k) r e) [
-      inl p ↦ subst (λ m. is_open_request all m ≡ true) p.1 (second_holds (asks_for x.event k) (is_open_request all x.number) p.0)
-    | inr p ↦ running_open all past k r p.1 ]
+      | inl p ↦ subst (λ m. is_open_request all m ≡ true) p.1 (second_holds (asks_for x.event k) (is_open_request all x.number) p.0)
+      | inr p ↦ running_open all past k r p.1
+    ]
 
 asked_kind : (event : Event) (q k : Key) → key_asked event ≡ Some q → asks_for event k ≡ true → kind_of q ≡ kind_of k
 asked_kind (events.Ask key) q k own h = subst (λ (x : Key). kind_of x ≡ kind_of k) (same_some key q own) (same_kind key k h)
@@ -70,13 +72,14 @@ running_kind : (n : ℕ) (all past : List Entry) (k q : Key) (r : ℕ) → falls
 running_kind n all [] k q r h e own = absurd (none_is_not r e)
 running_kind n all (x ∷ past) k q r h e own =
     elim (chosen_some (asks_for x.event k && is_open_request all x.number) x.number (open_among all past k) r e) [
-      inl p ↦ (let here : (x.number == r) ≡ true = subst (λ m. (x.number == m) ≡ true) p.1 (same_number x.number) in
-               asked_kind x.event q k (key_at (x.number == r) (key_asked x.event) (key_of past r) q here own)
-               (first_holds (asks_for x.event k) (is_open_request all x.number) p.0))
-    | inr p ↦ (let falls = second_holds (nat_lt x.number n) (falls_from x.number past) h in
-               let below = running_below x.number all past k r falls p.1 in
-               let other : (x.number == r) ≡ false = grind (arith, nat_tests, below) in
-               running_kind x.number all past k q r falls p.1 (key_before x past r q other own)) ]
+      | inl p ↦ (let here : (x.number == r) ≡ true = subst (λ m. (x.number == m) ≡ true) p.1 (same_number x.number) in
+          asked_kind x.event q k (key_at (x.number == r) (key_asked x.event) (key_of past r) q here own)
+          (first_holds (asks_for x.event k) (is_open_request all x.number) p.0))
+      | inr p ↦ (let falls = second_holds (nat_lt x.number n) (falls_from x.number past) h in
+          let below = running_below x.number all past k r falls p.1 in
+          let other : (x.number == r) ≡ false = grind (arith, nat_tests, below) in
+          running_kind x.number all past k q r falls p.1 (key_before x past r q other own))
+    ]
 
 -- what is open as a request is open as no attempt, and has a key
 opened_apart : (event : Event) (reply : Reply) → opens_request event reply ≡ true → opens_attempt event reply ≡ false
@@ -252,15 +255,17 @@ module _ (d : Daemon) (now : ℕ) (event : Event) (numbers : falls_from d.next d
   below_after : (t r : ℕ) → waits_for (e ∷ d.past) t ≡ Some r → r < e.number + 1
   below_after t r w =
       elim (waited t r w) [
-        inl p ↦ (let less = joined_below r (join r p.1) in omega arith)
-      | inr p ↦ (let less = before_below t r p.1 in omega arith) ]
+        | inl p ↦ (let less = joined_below r (join r p.1) in omega arith)
+        | inr p ↦ (let less = before_below t r p.1 in omega arith)
+      ]
 
   attempt_after : (t r : ℕ) → waits_for (e ∷ d.past) t ≡ Some r → is_open_attempt (e ∷ d.past) r ≡ false
   attempt_after t r w =
       elim (waited t r w) [
-        inl p ↦ (let j = join r p.1 in
-                 no_attempt_after e d.past r (other_number r (joined_below r j)) (apart (unclosed d.past r) (running_open d.past d.past j.key r j.running)))
-      | inr p ↦ no_attempt_after e d.past r (other_number r (before_below t r p.1)) (fit.no_attempt t r p.1) ]
+        | inl p ↦ (let j = join r p.1 in
+            no_attempt_after e d.past r (other_number r (joined_below r j)) (apart (unclosed d.past r) (running_open d.past d.past j.key r j.running)))
+        | inr p ↦ no_attempt_after e d.past r (other_number r (before_below t r p.1)) (fit.no_attempt t r p.1)
+      ]
 
   own_key : (t : ℕ) (k : Key) → (e.number == t) ≡ true → key_of (e ∷ d.past) t ≡ Some k → key_asked event ≡ Some k
   own_key t k here own = key_at (e.number == t) (key_asked event) (key_of d.past t) k here own
@@ -269,12 +274,13 @@ module _ (d : Daemon) (now : ℕ) (event : Event) (numbers : falls_from d.next d
       key_of (e ∷ d.past) r ≡ Some q → kind_of q ≡ kind_of k
   kind_after t r k q w o kt kr =
       elim (waited t r w) [
-        inl p ↦ (let j = join r p.1 in
-                 let asked : j.key ≡ k = same_some j.key k (sym j.asked ∙ own_key t k p.0 kt) in
-                 let own = key_before e d.past r q (other_number r (joined_below r j)) kr in
-                 subst (λ (x : Key). kind_of q ≡ kind_of x) asked (running_kind e.number d.past d.past j.key q r falls j.running own))
-      | inr p ↦ (let apart_from = other_number r (before_below t r p.1) in
-                 fit.same_kind t r k q p.1 (request_before e d.past r apart_from o) (key_before e d.past t k p.0 kt) (key_before e d.past r q apart_from kr)) ]
+        | inl p ↦ (let j = join r p.1 in
+            let asked : j.key ≡ k = same_some j.key k (sym j.asked ∙ own_key t k p.0 kt) in
+            let own = key_before e d.past r q (other_number r (joined_below r j)) kr in
+            subst (λ (x : Key). kind_of q ≡ kind_of x) asked (running_kind e.number d.past d.past j.key q r falls j.running own))
+        | inr p ↦ (let apart_from = other_number r (before_below t r p.1) in
+            fit.same_kind t r k q p.1 (request_before e d.past r apart_from o) (key_before e d.past t k p.0 kt) (key_before e d.past r q apart_from kr))
+      ]
 
   -- a request that a new ticket joins is not closed by that entry
   joined_stays : (r : ℕ) → HasJoined d.past event r → is_open_request (e ∷ d.past) r ≡ false → ⊥
@@ -321,19 +327,22 @@ module _ (d : Daemon) (now : ℕ) (event : Event) (numbers : falls_from d.next d
       IsFitOutcome d.past e k (outcome_of (e ∷ d.past) r)
   outcome_after t r k w c own =
       elim (waited t r w) [
-        inl p ↦ absurd (joined_stays r (join r p.1) c)
-      | inr p ↦ closed_by t r k (is_open_request d.past r) refl p.1 (key_before e d.past t k p.0 own) c ]
+        | inl p ↦ absurd (joined_stays r (join r p.1) c)
+        | inr p ↦ closed_by t r k (is_open_request d.past r) refl p.1 (key_before e d.past t k p.0 own) c
+      ]
 
   -- a ticket that waits has a key
   key_after : (t r : ℕ) → waits_for (e ∷ d.past) t ≡ Some r → (k : Key) × (key_of (e ∷ d.past) t ≡ Some k)
   key_after t r w =
       elim (waited t r w) [
-        inl p ↦ (let j = join r p.1 in (j.key, here (e.number == t) (key_asked event) (key_of d.past t) j.key p.0 j.asked))
-      | inr p ↦ (let own = fit.has_key t r p.1 in (own.0, there (e.number == t) (key_asked event) (key_of d.past t) own.0 p.0 own.1)) ]
+        | inl p ↦ (let j = join r p.1 in (j.key, here (e.number == t) (key_asked event) (key_of d.past t) j.key p.0 j.asked))
+        | inr p ↦ (let own = fit.has_key t r p.1 in (own.0, there (e.number == t) (key_asked event) (key_of d.past t) own.0 p.0 own.1))
+      ]
     where
       here : (b : Bool) (x y : Option Key) (k : Key) → b ≡ true → x ≡ Some k → (if b then x else y) ≡ Some k
       here true x y k f g = g
       here false x y k f g = absurd (false_is_not_true f)
+
       there : (b : Bool) (x y : Option Key) (k : Key) → b ≡ false → y ≡ Some k → (if b then x else y) ≡ Some k
       there true x y k f g = absurd (false_is_not_true (sym f))
       there false x y k f g = g

@@ -1,5 +1,5 @@
 -- Laws of every step, in the words of who asks: freshness, one open request for a key, equal outcomes, account checks, guesses.
-use Rattle.std.specs.Prelude.{ℕ, Bool, true, false, ◌≡◌, ◌≢◌, ◌<◌, ◌≤◌, ◌+◌, ◌-◌, ◌*◌, ◌%◌, List, [], ◌∷◌, Option, Some, None}
+use Rattle.std.specs.Prelude.{ℕ, true, false, ◌≡◌, ◌≢◌, ◌<◌, ◌≤◌, ◌+◌, ◌-◌, ◌*◌, ◌%◌, List, Option, Some}
 use Rattle.sd_rules.specs.declared.keys.Key.{Key}
 use Rattle.sd_rules.specs.declared.keys.Key.TheVariants as keys
 use Rattle.sd_rules.specs.declared.records.Answered.TheVariants.{Found}
@@ -22,7 +22,7 @@ use Rattle.sd_rules.specs.declared.settings.Settings.{Settings}
 use Rattle.sd_rules.specs.Keys.{kind_of}
 use Rattle.sd_rules.specs.Past.{Standing, newest, is_voided, outage_at, key_of}
 use Rattle.sd_rules.specs.Requests.{is_open, is_open_request, is_open_attempt, waits_for, outcome_of}
-use Rattle.sd_rules.specs.Answers.{is_found, timeout_of}
+use Rattle.sd_rules.specs.Answers.{timeout_of}
 use Rattle.sd_rules.specs.Logins.{wrong_count, last_wrong}
 use Rattle.sd_rules.specs.Access.{asker_of}
 use Rattle.sd_rules.specs.Steps.{Daemon, moment_of, record_in, event_named, answer_named_by_outcome}
@@ -54,7 +54,7 @@ NamesFresh s past t _ reply = Unit {0}
 -- at most one request is open for a key
 pub record HasOneOpen (past : List Entry) : Type 0 where
   pub one : (r q : ℕ) (k : Key) → is_open_request past r ≡ true → is_open_request past q ≡ true →
-    key_of past r ≡ Some k → key_of past q ≡ Some k → r ≡ q
+      key_of past r ≡ Some k → key_of past q ≡ Some k → r ≡ q
 
 -- the outcome of what is open no more stays as it is, so all its tickets take the same
 pub record KeepsOutcomes (before after : List Entry) : Type 0 where
@@ -71,17 +71,17 @@ pub record HasFitTickets (next : ℕ) (past : List Entry) : Type 0 where
   pub below : (t r : ℕ) → waits_for past t ≡ Some r → r < next
   pub no_attempt : (t r : ℕ) → waits_for past t ≡ Some r → is_open_attempt past r ≡ false
   pub same_kind : (t r : ℕ) (k q : Key) → waits_for past t ≡ Some r → is_open_request past r ≡ true → key_of past t ≡ Some k → key_of past r ≡ Some q →
-    kind_of q ≡ kind_of k
+      kind_of q ≡ kind_of k
   pub named_below : (t r n : ℕ) → waits_for past t ≡ Some r → is_open_request past r ≡ false → answer_named_by_outcome (outcome_of past r) ≡ Some n → n < next
   pub of_kind : (t r : ℕ) (k : Key) → waits_for past t ≡ Some r → is_open_request past r ≡ false → key_of past t ≡ Some k →
-    is_of_kind_of k (outcome_record past r) ≡ true
+      is_of_kind_of k (outcome_record past r) ≡ true
 
 -- Where so many guesses are wrong that they block, the next one that is judged wrong comes only after the delay, and with no delay
 -- there is no such one before an entry accepts the user.
 pub record IsAfterBlock (s : Settings) (past : List Entry) (t : ℕ) (user : List ℕ) : Type 0 where
   pub delayed : s.attempts ≢ 0 → wrong_count past user ≢ 0 → wrong_count past user % s.attempts ≡ 0 → s.delay_minutes ≢ 0
   pub waited : (wrong : ℕ) → s.attempts ≢ 0 → wrong_count past user ≢ 0 → wrong_count past user % s.attempts ≡ 0 → last_wrong past user ≡ Some wrong →
-    wrong + 60 * s.delay_minutes ≤ t
+      wrong + 60 * s.delay_minutes ≤ t
 
 abbrev pub WrongNames : Settings → List Entry → ℕ → List ℕ → Reply → Type 0
 WrongNames s past t user (replies.Judged verdicts.Wrong) = IsAfterBlock s past t user
@@ -105,7 +105,7 @@ pub record IsGrantedByRule (s : Settings) (past : List Entry) (user service : Li
 pub record IsDeniedByRules (s : Settings) (past : List Entry) (user service : List ℕ) : Type 0 where
   pub by_rules : s.access ≡ Ipa
   pub none : (a : Standing) (book : RuleBook) → newest past keys.Rules ≡ Some a → a.answered ≡ Found (records.Rules book) →
-    NoneMatches book (asker_of s past user service)
+      NoneMatches book (asker_of s past user service)
 
 abbrev pub DeniedNames : Settings → List Entry → List ℕ → List ℕ → NotBy → Type 0
 DeniedNames s past user service not_by.NoRule = IsDeniedByRules s past user service

@@ -1,5 +1,5 @@
 -- Lists of steps: the daemon after them, and what they give.
-use Rattle.std.specs.Prelude.{ℕ, Bool, true, ◌&&◌, List, [], ◌∷◌}
+use Rattle.std.specs.Prelude.{Bool, true, ◌&&◌, List, [], ◌∷◌}
 use Rattle.sd_rules.specs.declared.replies.Given.{Given}
 use Rattle.sd_rules.specs.Steps.{Daemon, after, given, is_steppable}
 use Rattle.sd_core.specs.declared.lists.Step.{Step}

@@ -1,5 +1,5 @@
 -- Events that speak of a request or an attempt by its number.
-use Rattle.std.specs.Prelude.{ℕ, Bool, true, false}
+use Rattle.std.specs.Prelude.{Bool, true, false}
 use Rattle.sd_rules.specs.declared.events.Event.{Event}
 use Rattle.sd_rules.specs.declared.events.Event.TheVariants.{Pick, Fall, Answer, Refuse, Outage, Abandon, LoginOnline, LoginTry}
 

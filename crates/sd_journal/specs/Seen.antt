@@ -1,5 +1,4 @@
 -- What the code's references and small values show, in the words of the definitions.
-use Rattle.std.specs.Prelude.{Option, Some, None}
 use Rattle.sd_rules.specs.Past as past
 use Rattle.sd_rules.specs.Logins as logins
 use Rattle.sd_journal.specs.declared.past.Standing.{Standing}

@@ -24,5 +24,5 @@ loop-step-preserved g c =
       given =
           subst (λ (gs : List Given). gs ++ all_given e rest ≡ all_given first all) (sym c.in_ok-push-in-Ok.ensures.ok)
           (next_given d e here (drop c.loop-step.step-index all) rest c.in_ok-copy.field-0 cut c.in_ok-copy.ensures c.in-Ok.ensures.made
-            c.in-Ok.answer c.loop-step.given (all_given first all) c.in-Ok.ensures.given c.loop-step.invariant.given);
+          c.in-Ok.answer c.loop-step.given (all_given first all) c.in-Ok.ensures.given c.loop-step.invariant.given);
     }

@@ -1,7 +1,7 @@
 use Rattle.std.proofs.Common.{◌≡◌, true, sym, subst}
 use Rattle.std.specs.Prelude.{IfOk, OnOk}
 use Rattle.sd_rules.specs.Steps.{Daemon, is_steppable}
-use Rattle.sd_core.specs.Laws.{IsKept, FollowsLaws, KeepsOutcomes}
+use Rattle.sd_core.specs.Laws.{FollowsLaws, KeepsOutcomes}
 use Rattle.sd_core.proofs.KeptLaws.{kept_either, follows_if_made, outcomes_if_made}
 use Rattle.sd_core.proofs.daemon.Core.step.Goals as goal
 

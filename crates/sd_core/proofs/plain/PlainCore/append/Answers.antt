@@ -1,8 +1,8 @@
-use Rattle.std.proofs.Common.{◌≡◌, ◌+◌, ◌-◌, ◌^◌, ◌++◌, ◌∷◌, [], List, reverse, min, arith, subst, sym}
+use Rattle.std.proofs.Common.{◌≡◌, ◌+◌, ◌∷◌, List, reverse, arith, subst, sym}
 use Rattle.std.proofs.lemmas.Grind.{common_steps}
 use Rattle.sd_rules.specs.declared.replies.Entry.{Entry}
 use Rattle.sd_rules.specs.Steps.{Daemon, recorded}
-use Rattle.sd_rules.specs.TextBytes.{text_bytes, bytes_of_event}
+use Rattle.sd_rules.specs.TextBytes.{text_bytes}
 use Rattle.sd_core.specs.Sound.{IsSound}
 use Rattle.sd_core.proofs.plain.PlainCore.append.Goals as goal
 

@@ -1,4 +1,4 @@
-use Rattle.std.proofs.Common.{◌≡◌, ap, sym, ◌∙◌}
+use Rattle.std.proofs.Common.{ap, sym, ◌∙◌}
 use Rattle.sd_rules.specs.declared.replies.Given.{Given}
 use Rattle.sd_core.proofs.Stepped.{sound_entry}
 use Rattle.sd_core.proofs.plain.PlainCore.step.Goals as goal
