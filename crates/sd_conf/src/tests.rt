@@ -74,6 +74,13 @@ fn refuses_in_order(rt: HostRuntime) -> Result<(), Fail> {
     Ok(())
 }
 
+fn is_missing(fault: &ConfFault, name: &str) -> bool {
+    match fault {
+        ConfFault::Missing(missing) => missing.bytes() == name.as_bytes(),
+        _ => false,
+    }
+}
+
 #[test]
 fn tells_what_is_missing(rt: HostRuntime) -> Result<(), Fail> {
     let cases = [
@@ -103,10 +110,8 @@ fn tells_what_is_missing(rt: HostRuntime) -> Result<(), Fail> {
         text.extend_from_slice(b"[sssd]\ndomains = test\n[domain/test]\n")?;
         text.extend_from_slice(lines.as_bytes())?;
         match read_conf(rt.alloc(), &text) {
-            Err(ConfFault::Missing(missing)) => {
-                assert_eq!(rt; missing.bytes(), name.as_bytes(), "at {lines}")
-            }
-            _ => assert!(rt; false, "nothing missing at {lines}"),
+            Ok(_config) => assert!(rt; false, "nothing missing at {lines}"),
+            Err(fault) => assert!(rt; is_missing(&fault, name), "at {lines}"),
         }
     }
     Ok(())
@@ -207,7 +212,7 @@ fn counts_servers(rt: HostRuntime) -> Result<(), Fail> {
         match read_conf(rt.alloc(), &text) {
             Ok(config) => {
                 assert_eq!(rt; bad, 0, "{primaries} and {backups}");
-                assert_eq!(rt; config.servers.len(), primaries + backups);
+                assert_eq!(rt; config.servers.len(), primaries.saturating_add(backups));
                 assert_eq!(rt; config.settings.primaries as usize, primaries);
                 assert_eq!(rt; config.settings.backups as usize, backups);
             }
