@@ -147,5 +147,8 @@ impl Task for NssTask {
         fetched(&mut self.course, found);
     }
 
-    fn bound(&mut self, _bound: Bound) {}
+    // A lookup waits for no bind: one that is told changes nothing.
+    fn bound(&mut self, _bound: Bound)
+        ensures { self.new ≡ self.old }
+    {}
 }
