@@ -1,3 +1,5 @@
 pub mod Complete
 pub mod Sound
 pub mod Places
+mod Goes
+mod Meets

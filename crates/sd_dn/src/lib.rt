@@ -10,9 +10,11 @@ pub mod compare;
 pub mod read;
 #[cfg(test)]
 mod tests;
+pub mod texts;
 
 pub use compare::{Leaf, dn_equal, is_at_or_under, is_under, leaf_under};
 pub use read::{is_dn, read_dn};
+pub use texts::{same_dn_text, spelled, spells_dn};
 
 /// An attribute's type and its value, of which nothing is escaped.
 #[derive(Drop, Debug)]
