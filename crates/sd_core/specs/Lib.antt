@@ -3,4 +3,5 @@ pub mod Numbered
 pub mod Sound
 pub mod Looks
 pub mod Laws
+pub mod Growth
 pub mod Lists

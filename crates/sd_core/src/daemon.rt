@@ -1,6 +1,8 @@
 // The daemon's core, as the layers above use it.
 ghost use Rattle.std.specs.Prelude.{◌≡◌, ℕ, ◌+◌, ◌≤◌, [], true, false, reverse, IfOk, IfErr, OnErr, OnOk};
+ghost use Rattle.sd_rules.specs.Reaching as reaching;
 ghost use Rattle.sd_rules.specs.Steps as steps;
+ghost use Rattle.sd_core.specs.Growth as growth;
 ghost use Rattle.sd_core.specs.Laws as laws;
 ghost use Rattle.sd_core.specs.Looks as looks;
 
@@ -74,6 +76,10 @@ impl Core {
         ensures laws { IfOk result (laws.FollowsLaws self.old now event) }
         ensures outcomes { OnOk result (laws.KeepsOutcomes self.old.past self.new.past) }
         ensures kept { laws.IsKept self.new }
+
+        // The journal grows by legal entries, whether the step is made or refused.
+        ensures reached { reaching.Reaches self.old self.new }
+        ensures legal { growth.KeepsGrown self.old self.new }
     {
         self.plain.step(now, event)
     }

@@ -1,7 +1,10 @@
 // Lists of steps, over any core that answers as the abstract daemon.
 ghost use Rattle.std.specs.Prelude.{◌≡◌, ℕ, ◌+◌, true, false, IfOk, IfErr, OnErr, OnOk};
+ghost use Rattle.sd_rules.specs.Reaching as reaching;
 ghost use Rattle.sd_rules.specs.Steps as steps;
+ghost use Rattle.sd_core.specs.Growth as growth;
 ghost use Rattle.sd_core.specs.Lists as lists;
+ghost use Rattle.sd_core.specs.declared.lists.ListFault.TheVariants as faults;
 
 use crate::daemon::Core;
 use crate::plain::PlainCore;
@@ -29,7 +32,9 @@ pub trait Answers {
         requires { steps.is_steppable (daemon self.old).past event ≡ true }
         ensures made { OnOk result (daemon self.new ≡ steps.after (daemon self.old) now event) }
         ensures given { IfOk result (λ given. given ≡ steps.given (daemon self.old) now event) }
+        ensures room { OnOk result (steps.is_full (daemon self.old) event ≡ false) }
         ensures full { steps.is_full (daemon self.old) event ≡ true → IfErr result (λ refused. refused.fault ≡ StepFault.JournalFull (steps.full_count (daemon self.old))) }
+        ensures full_only { IfErr result (λ refused. (n : ℕ) → refused.fault ≡ StepFault.JournalFull n → (steps.is_full (daemon self.old) event ≡ true) × (n ≡ steps.full_count (daemon self.old))) }
         ensures back { IfErr result (λ refused. refused.event ≡ event) }
         ensures unchanged { OnErr result (daemon self.new ≡ daemon self.old) };
 }
@@ -51,20 +56,46 @@ impl Answers for Core {
 }
 
 /// Why a list of steps ended before its end.
-#[derive(Clone, Copy, Debug, PartialEq, Eq)]
+#[derive(Debug, Drop, PartialEq, Eq)]
 pub enum ListFault {
-    /// A step was refused.
-    Refused(StepFault),
+    /// The core refused a step: what each step before it gave, and why, with the step's event.
+    Refused(GivenList, Refused),
+    /// Want of memory for a step's copy, or for what it gave.
     Memory,
 }
 
 impl From<Memory> for ListFault {
+    ghost from_gives = { λ _ fault. fault ≡ faults.Memory };
+
     fn from(_memory: Memory) -> ListFault {
         ListFault::Memory
     }
 }
 
-/// Makes all steps, in order: the core ends as the abstract daemon does, and each step gives what the daemon gives.
+/// Makes the steps one by one.
+fn answer_each<C: Answers>(
+    alloc: Global,
+    core: &mut C,
+    steps: &Items<Step>,
+) -> Result<GivenList, ListFault>
+    requires { lists.are_steppable (C.daemon core.old) steps.now ≡ true }
+    ensures made { OnOk result (C.daemon core.new ≡ lists.after_all (C.daemon core.old) steps.now) }
+    ensures given { IfOk result (λ given. given ≡ lists.all_given (C.daemon core.old) steps.now) }
+    ensures room { OnOk result (lists.have_room (C.daemon core.old) steps.now ≡ true) }
+    ensures early { IfErr result (λ fault. lists.EndsEarly (C.daemon core.old) (C.daemon core.new) steps.now fault) }
+{
+    let mut given = GivenList::new(alloc);
+    for step in steps.items() {
+        match core.answer(step.now, step.event.copy()?) {
+            Ok(answer) => given.push(answer)?,
+            Err(refused) => return Err(ListFault::Refused(given, refused)),
+        }
+    }
+    Ok(given)
+}
+
+/// Makes all steps, in order: the core ends as the abstract daemon does, and each step gives what the daemon gives. The first step
+/// that the core refuses ends the list.
 pub fn answer_all<C: Answers>(
     alloc: Global,
     core: &mut C,
@@ -73,13 +104,12 @@ pub fn answer_all<C: Answers>(
     requires { lists.are_steppable (C.daemon core.old) steps.now ≡ true }
     ensures made { OnOk result (C.daemon core.new ≡ lists.after_all (C.daemon core.old) steps.now) }
     ensures given { IfOk result (λ given. given ≡ lists.all_given (C.daemon core.old) steps.now) }
+    ensures room { OnOk result (lists.have_room (C.daemon core.old) steps.now ≡ true) }
+    ensures early { IfErr result (λ fault. lists.EndsEarly (C.daemon core.old) (C.daemon core.new) steps.now fault) }
+
+    // However the list ends.
+    ensures reached { reaching.Reaches (C.daemon core.old) (C.daemon core.new) }
+    ensures legal { growth.KeepsGrown (C.daemon core.old) (C.daemon core.new) }
 {
-    let mut given = GivenList::new(alloc);
-    for step in steps.items() {
-        match core.answer(step.now, step.event.copy()?) {
-            Ok(answer) => given.push(answer)?,
-            Err(refused) => return Err(ListFault::Refused(refused.fault)),
-        }
-    }
-    Ok(given)
+    answer_each(alloc, core, steps)
 }
