@@ -1,0 +1,84 @@
+// Plays worked journals on both cores: standard input has settings and steps, standard output gets the entries that they make.
+//
+// A line `settings ..` begins a journal (settings.rt says what it holds); any other line is a step, as a journal prints it: the moment
+// handed in and the event. Empty lines and lines that begin with `#` are printed as they stand.
+#![tactic(auto)]
+
+mod cores;
+mod events;
+mod givens;
+mod kinds;
+mod output;
+mod records;
+mod replies;
+mod settings;
+mod words;
+
+use cores::Cores;
+use output::print_line;
+use sd_base::{Memory, ReaderSource, WriterSink, read_all, write_all};
+use std::alloc::Global;
+use std::process::ExitCode;
+use words::{Words, cut, is};
+
+/// The longest input, in bytes.
+const LIMIT: usize = 1 << 20;
+
+fn is_comment(line: &[u8]) -> bool {
+    matches!(line, [] | [b'#', ..])
+}
+
+/// Carries out one line.
+fn play_line(
+    alloc: Global,
+    cores: &mut Cores,
+    line: &[u8],
+    out: &mut Vec<u8>,
+) -> Result<(), Memory> {
+    if is_comment(line) {
+        return print_line(out, line);
+    }
+    let mut words = Words::new(line);
+    let name = words.word();
+    if is(name, b"settings") {
+        *cores = Cores::open(alloc, settings::read(alloc, &mut words)?)?;
+        return print_line(out, line);
+    }
+    cores.step(alloc, line, out)
+}
+
+/// What the lines of a text print.
+fn play(alloc: Global, text: &[u8]) -> Result<Vec<u8>, Memory> {
+    let mut out = Vec::new(alloc);
+    let mut cores = Cores::open(alloc, settings::read(alloc, &mut Words::new(b""))?)?;
+    let mut left = text;
+    for _ in 0..text.len() {
+        let (line, rest) = cut(left, b'\n');
+        play_line(alloc, &mut cores, line, &mut out)?;
+        left = rest;
+        if left.is_empty() {
+            break;
+        }
+    }
+    Ok(out)
+}
+
+fn run(rt: &HostRuntime) -> u8 {
+    let alloc = rt.alloc();
+    let mut source = ReaderSource::new(rt.stdin());
+    let mut sink = WriterSink::new(rt.stdout());
+    let Ok(text) = read_all(alloc, &mut source, LIMIT) else {
+        return 3;
+    };
+    let Ok(out) = play(alloc, text.as_slice()) else {
+        return 7;
+    };
+    match write_all(&mut sink, out.as_slice()) {
+        Ok(()) => 0,
+        Err(_) => 4,
+    }
+}
+
+fn main(rt: HostRuntime) -> ExitCode {
+    ExitCode::from(run(&rt))
+}

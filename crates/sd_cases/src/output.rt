@@ -1,0 +1,37 @@
+// What is printed: words and numbers, with a space before each, and lines.
+use sd_base::Memory;
+
+pub fn print(out: &mut Vec<u8>, bytes: &[u8]) -> Result<(), Memory> {
+    out.extend_from_slice(bytes)?;
+    Ok(())
+}
+
+pub fn print_line(out: &mut Vec<u8>, line: &[u8]) -> Result<(), Memory> {
+    print(out, line)?;
+    print(out, b"\n")
+}
+
+pub fn print_word(out: &mut Vec<u8>, word: &[u8]) -> Result<(), Memory> {
+    print(out, b" ")?;
+    print(out, word)
+}
+
+pub fn print_digits(out: &mut Vec<u8>, number: u64) -> Result<(), Memory> {
+    let mut divisor = 10_000_000_000_000_000_000u64;
+    let mut is_begun = false;
+    for _ in 0..20 {
+        let unit = divisor.max(1);
+        let digit = (number / unit % 10) as u8;
+        is_begun = is_begun || digit != 0 || unit == 1;
+        if is_begun {
+            out.push(b'0' + digit)?;
+        }
+        divisor /= 10;
+    }
+    Ok(())
+}
+
+pub fn print_number(out: &mut Vec<u8>, number: u64) -> Result<(), Memory> {
+    print(out, b" ")?;
+    print_digits(out, number)
+}
