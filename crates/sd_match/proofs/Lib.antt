@@ -1,0 +1,4 @@
+mod Greedy
+mod Digits
+mod Order
+mod Presence
