@@ -1,0 +1,219 @@
+//! Replies, as bytes.
+ghost use Rattle.std.specs.Prelude.{◌≡◌, ◌<◌, ℕ, Bool, List, [], ◌∷◌, length, ◌++◌, take, flat_map, IfOk, OnOk, Option, if◌then◌else◌, nat_lt, ◌&&◌};
+ghost use Rattle.sd_dn.specs.Texts.{spelled};
+ghost use Rattle.sd_ldap.specs.declared.entry.DirEntry.{DirEntry};
+ghost use Rattle.sd_ldap.specs.Values.{message_value, operation_value, search_value};
+ghost use Rattle.sd_ldap.specs.Spelling.{message_bytes};
+ghost use Rattle.sd_match.specs.Answering.{told, is_found, found, found_replies, replies_by, reply_bytes};
+ghost use Rattle.sd_stub.specs.Replying.{entry_reply, entries_bytes, done_bytes, alone_bytes, bind_bytes, next_bytes, next_left, supported_bytes, search_bytes};
+
+use crate::binding::bind_code;
+use crate::placed::Placed;
+use crate::searching::{count_found, has_base, is_found};
+use crate::sending::sent;
+use sd_base::{Memory, Text};
+use sd_dn::{Dn, spelled};
+use sd_ldap::{LdapResult, Message, Operation, SearchRequest, write_message};
+use sd_match::has_unsupported;
+use std::alloc::Global;
+
+fn told(alloc: Global, code: u32) -> Result<LdapResult, Memory>
+    ensures { IfOk result (λ made. made ≡ told code) }
+{
+    Ok(LdapResult {
+        code,
+        dn: Text::from_bytes(alloc, b"")?,
+        message: Text::from_bytes(alloc, b"")?,
+    })
+}
+
+fn put_message(alloc: Global, out: &mut Vec<u8>, message: &Message) -> Result<(), Memory>
+    ensures { OnOk result (out.new.items ≡ out.old.items ++ message_bytes (message_value message.now)) }
+{
+    let bytes = write_message(alloc, message)?;
+    out.extend_from_slice(&bytes)?;
+    Ok(())
+}
+
+fn put_done(alloc: Global, out: &mut Vec<u8>, id: u32, code: u32) -> Result<(), Memory>
+    ensures { OnOk result (out.new.items ≡ out.old.items ++ done_bytes id code) }
+{
+    let message = Message {
+        id,
+        operation: Operation::Done(told(alloc, code)?),
+    };
+    put_message(alloc, out, &message)
+}
+
+fn put_entry(
+    alloc: Global,
+    out: &mut Vec<u8>,
+    id: u32,
+    request: &SearchRequest,
+    placed: &Placed,
+) -> Result<(), Memory>
+    ensures { OnOk result (out.new.items ≡ out.old.items ++ entry_reply id (search_value request.now) placed.now) }
+{
+    let message = Message {
+        id,
+        operation: Operation::Entry(sent(alloc, request, placed.entry())?),
+    };
+    put_message(alloc, out, &message)
+}
+
+/// Puts an entry where a search finds it; then how many are still to be put.
+fn put_next(
+    alloc: Global,
+    out: &mut Vec<u8>,
+    id: u32,
+    request: &SearchRequest,
+    placed: &Placed,
+    base: &Option<Dn>,
+    left: usize,
+) -> Result<usize, Memory>
+    requires base { base.now ≡ spelled request.now.base }
+    requires left { 0 < left }
+    ensures { IfOk result (λ after. (out.new.items ≡ out.old.items ++ next_bytes (is_found (search_value request.now) placed.now) id (search_value request.now) placed.now) × (after ≡ next_left (is_found (search_value request.now) placed.now) left)) }
+{
+    if !is_found(placed, request, base) {
+        return Ok(left);
+    }
+    put_entry(alloc, out, id, request, placed)?;
+    Ok(left - 1)
+}
+
+/// Puts the first entries that a search finds, as many as the limit, each in a message.
+fn put_found(
+    alloc: Global,
+    out: &mut Vec<u8>,
+    id: u32,
+    request: &SearchRequest,
+    entries: &[Placed],
+    base: &Option<Dn>,
+    limit: usize,
+) -> Result<(), Memory>
+    requires { base.now ≡ spelled request.now.base }
+    ensures { OnOk result (out.new.items ≡ out.old.items ++ entries_bytes id (search_value request.now) (take limit (found entries.now (search_value request.now)))) }
+{
+    let mut left = limit;
+    for placed in entries {
+        if left == 0 {
+            return Ok(());
+        }
+        let after = put_next(alloc, out, id, request, placed, base, left)?;
+        left = after;
+    }
+    Ok(())
+}
+
+/// How many of the entries found are sent, and the code behind them.
+fn limited(size: u32, count: usize) -> (usize, u32)
+    ensures sent { result.0 ≡ (if nat_lt 0 size && nat_lt size count then size else count) }
+    ensures code { result.1 ≡ (if nat_lt 0 size && nat_lt size count then 4 else 0) }
+{
+    if size > 0 && (size as usize) < count {
+        return (size as usize, 4);
+    }
+    (count, 0)
+}
+
+/// The replies to a search whose base is there.
+fn found_bytes(
+    alloc: Global,
+    id: u32,
+    request: &SearchRequest,
+    entries: &[Placed],
+    base: &Option<Dn>,
+) -> Result<Vec<u8>, Memory>
+    requires { base.now ≡ spelled request.now.base }
+    ensures { IfOk result (λ v. v.items ≡ flat_map message_bytes (found_replies id (search_value request.now) (found entries.now (search_value request.now)))) }
+{
+    let count = count_found(entries, request, base);
+    let (limit, code) = limited(request.size, count);
+    let mut out = Vec::new(alloc);
+    put_found(alloc, &mut out, id, request, entries, base, limit)?;
+    put_done(alloc, &mut out, id, code)?;
+    Ok(out)
+}
+
+#[tactic(auto, using(crate::proofs::Replies::alone))]
+fn done_alone(alloc: Global, id: u32, code: u32) -> Result<Vec<u8>, Memory>
+    ensures { IfOk result (λ v. v.items ≡ alone_bytes id code) }
+{
+    let mut out = Vec::new(alloc);
+    put_done(alloc, &mut out, id, code)?;
+    Ok(out)
+}
+
+/// The replies to a search whose filter is supported.
+#[tactic(auto, using(crate::proofs::Replies::no_base, crate::proofs::Replies::with_base))]
+fn supported(
+    alloc: Global,
+    entries: &[Placed],
+    id: u32,
+    request: &SearchRequest,
+) -> Result<Vec<u8>, Memory>
+    ensures { IfOk result (λ v. v.items ≡ supported_bytes entries.now id (search_value request.now)) }
+{
+    let base = spelled(alloc, request.base.bytes())?;
+    if !has_base(entries, &base) {
+        let bytes = done_alone(alloc, id, 32)?;
+        return Ok(bytes);
+    }
+    let bytes = found_bytes(alloc, id, request, entries, &base)?;
+    Ok(bytes)
+}
+
+#[tactic(auto, using(crate::proofs::Replies::no_support, crate::proofs::Replies::with_support))]
+fn search(
+    alloc: Global,
+    entries: &[Placed],
+    id: u32,
+    request: &SearchRequest,
+) -> Result<Vec<u8>, Memory>
+    ensures { IfOk result (λ v. v.items ≡ search_bytes entries.now id (search_value request.now)) }
+{
+    if has_unsupported(&request.filter) {
+        let bytes = done_alone(alloc, id, 53)?;
+        return Ok(bytes);
+    }
+    let bytes = supported(alloc, entries, id, request)?;
+    Ok(bytes)
+}
+
+#[tactic(auto, using(crate::proofs::Replies::alone))]
+fn bind(
+    alloc: Global,
+    entries: &[Placed],
+    id: u32,
+    name: &Text,
+    password: &Text,
+) -> Result<Vec<u8>, Memory>
+    ensures { IfOk result (λ v. v.items ≡ bind_bytes entries.now id name.now password.now) }
+{
+    let code = bind_code(alloc, entries, name, password)?;
+    let message = Message {
+        id,
+        operation: Operation::BindResponse(told(alloc, code)?),
+    };
+    let bytes = write_message(alloc, &message)?;
+    Ok(bytes)
+}
+
+/// The bytes of the replies to a message.
+pub fn replies(alloc: Global, entries: &[Placed], message: &Message) -> Result<Vec<u8>, Memory>
+    ensures { IfOk result (λ v. v.items ≡ reply_bytes entries.now (message_value message.now)) }
+{
+    match &message.operation {
+        Operation::BindRequest(_, name, password) => bind(
+            alloc, entries, message.id, name, password,
+        ),
+        Operation::Unbind => Ok(Vec::new(alloc)),
+        Operation::Search(request) => search(alloc, entries, message.id, request),
+        Operation::BindResponse(_) => done_alone(alloc, message.id, 53),
+        Operation::Entry(_) => done_alone(alloc, message.id, 53),
+        Operation::Done(_) => done_alone(alloc, message.id, 53),
+        Operation::Reference => done_alone(alloc, message.id, 53),
+        Operation::Other(_) => done_alone(alloc, message.id, 53),
+    }
+}
