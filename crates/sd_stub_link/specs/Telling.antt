@@ -1,0 +1,126 @@
+-- What a link to a directory in memory tells keeps the laws of directory links.
+use Rattle.std.proofs.Common.{◌≡◌, ℕ, ◌+◌, ◌^◌, ◌<◌, ◌≤◌, take, drop, Bool, true, false, not, ◌&&◌, cond, List, [], ◌∷◌, ◌++◌, length, Option, Some, None, Result, Ok, Err, refl, sym, ap, subst, ◌∙◌}
+use Rattle.std.proofs.lemmas.Bool.{and_from, and_parts, not-true, cond-true, false_from_ne_true, cond-false}
+use Rattle.std.proofs.lemmas.List.{append-nil, drop-append-le, take-append-le, take-append-drop, drop-drop}
+use Rattle.std.proofs.Math.Seq.{take-add}
+use Rattle.std.specs.Io.KnownBytes.{append_known, prepend_known}
+use Rattle.std.specs.Prelude.{IsSome}
+use Rattle.std.specs.List.{list_any}
+use Rattle.std.specs.Cmp.Lexicographic.{bytes_decides}
+use Rattle.sd_dn.specs.Texts.{same_dn_text}
+use Rattle.sd_ber.specs.Reading.{start_of, element_at}
+use Rattle.sd_ldap.specs.declared.entry.DirEntry.{DirEntry}
+use Rattle.sd_ldap.specs.Values.{MessageValue}
+use Rattle.sd_ldap.specs.Spelling.{message_bytes}
+use Rattle.sd_ldap.specs.Sound.{IsSound}
+use Rattle.sd_match.specs.Answering.{same_bytes, answer_to}
+use Rattle.sd_dial.specs.Asked.{with_message, IsNoMessage}
+use Rattle.sd_dial.specs.Entries.{HaveOwnDns}
+use Rattle.sd_stub_link.specs.Sounding.{is_sound}
+use Rattle.sd_stub_link.specs.Asking.{read_in, checked, message_of, with_found, messages_of}
+use Rattle.sd_stub_link.specs.Distinct.{is_own_dn, have_own_dns}
+use Rattle.sd_stub_link.specs.Standing.{Standing, is_up, told_where, coming_of, entries_of, with_reply, with_received, Went}
+use Rattle.sd_stub_link.specs.Sounds.{sound_told, sound_tested}
+use Rattle.sd_stub_link.specs.Whole.{whole_again}
+
+counts : (m : MessageValue) → IsSound m → length (message_bytes m) < 2 ^ 32 → message_of (message_bytes m) ≡ Some m
+unfolding message_of
+counts m sound small =
+    let test = and_from (is_sound m) (same_bytes (message_bytes m) (message_bytes m)) (sound_tested m sound) ((bytes_decides (message_bytes m) (message_bytes m)).1 refl) in
+    ap (checked (message_bytes m)) (whole_again m sound small) ∙ cond-true (is_sound m && same_bytes (message_bytes m) (message_bytes m)) (Some m) None test
+
+none_checked : (piece : List ℕ) (read : Result MessageValue ℕ) → IsNoMessage piece → checked piece read ≡ None
+none_checked piece (Ok m) none =
+    let test : (is_sound m && same_bytes (message_bytes m) piece) ≡ false =
+    false_from_ne_true _ (λ e. let p = and_parts (is_sound m) (same_bytes (message_bytes m) piece) e in none m (sound_told m p.0) (sym ((bytes_decides (message_bytes m) piece).0 p.1)))
+    in
+    cond-false (is_sound m && same_bytes (message_bytes m) piece) (Some m) None test
+none_checked piece (Err at) none = refl
+
+counts_not : (piece : List ℕ) → IsNoMessage piece → message_of piece ≡ None
+unfolding message_of
+counts_not piece none = none_checked piece (read_in (element_at (start_of piece))) none
+
+-- one more piece
+found_more : (found : Option MessageValue) (a b c : List MessageValue) → a ≡ b ++ c → with_found found a ≡ with_found found b ++ c
+found_more (Some m) a b c e = ap (λ (list : List MessageValue). m ∷ list) e
+found_more None a b c e = e
+
+messages_more : (pieces : List (List ℕ)) (piece : List ℕ) → messages_of (pieces ++ piece ∷ []) ≡ messages_of pieces ++ with_found (message_of piece) []
+unfolding messages_of
+messages_more [] piece = refl
+messages_more (first ∷ rest) piece = found_more (message_of first) (messages_of (rest ++ piece ∷ [])) (messages_of rest) (with_found (message_of piece) []) (messages_more rest piece)
+
+abbrev told : List MessageValue → Option (List MessageValue)
+told messages = Some messages
+
+pub asks : (before after : Standing) (m : MessageValue) → IsSound m → Went before (Some (message_bytes m)) after → Some (messages_of after.pieces) ≡ with_message (Some (messages_of before.pieces)) m
+asks before after m sound went =
+    ap (λ (pieces : List (List ℕ)). told (messages_of pieces)) went.pieces.0
+    ∙ ap told (messages_more before.pieces (message_bytes m))
+    ∙ ap (λ (found : Option MessageValue). told (messages_of before.pieces ++ with_found found [])) (counts m sound went.pieces.1)
+
+pub passes : (before after : Standing) (piece : List ℕ) → IsNoMessage piece → Went before (Some piece) after → Some (messages_of after.pieces) ≡ told (messages_of before.pieces)
+passes before after piece none went =
+    ap (λ (pieces : List (List ℕ)). told (messages_of pieces)) went.pieces.0
+    ∙ ap told (messages_more before.pieces piece)
+    ∙ ap (λ (found : Option MessageValue). told (messages_of before.pieces ++ with_found found [])) (counts_not piece none)
+    ∙ ap told (append-nil (messages_of before.pieces))
+
+pub waits : (before after : Standing) → Went before None after → Some (messages_of after.pieces) ≡ told (messages_of before.pieces)
+waits before after went = ap (λ (pieces : List (List ℕ)). told (messages_of pieces)) went.pieces
+
+pub keeps : (before after : Standing) (piece : Option (List ℕ)) → Went before piece after → entries_of after ≡ entries_of before
+keeps before after piece went = rw (went.entries, went.mode) refl
+
+-- entries that pass the test have DNs of their own
+own_dns : (entries : List DirEntry) → have_own_dns entries ≡ true → HaveOwnDns entries
+unfolding have_own_dns
+own_dns [] e = tt
+own_dns (first ∷ rest) e = let p = and_parts (is_own_dn first rest) (have_own_dns rest) e in (not-true _ p.0, own_dns rest p.1)
+
+-- what is told where two tests hold
+both_hold : {A : Type 0} (a b : Bool) (x y : A) → told_where (a && b) x ≡ Some y → (a ≡ true) × (b ≡ true) × (x ≡ y)
+both_hold true true x y e = (refl, refl, cc)
+both_hold true false x y e = absurd cc
+both_hold false b x y e = absurd cc
+
+tells_where : (a : Bool) (x : List ℕ) → a ≡ true → IsSome (told_where a x)
+tells_where true x e = refl
+tells_where false x e = absurd cc
+
+pub tells_coming : (link : Standing) (known : List DirEntry) → entries_of link ≡ Some known → IsSome (coming_of link) × HaveOwnDns known
+tells_coming link known e =
+    let h = both_hold (is_up link.mode) (have_own_dns link.entries) link.entries known e in
+    (tells_where (is_up link.mode) _ h.0, subst HaveOwnDns h.2 (own_dns link.entries h.1))
+
+pub answers : (link : Standing) (known : List DirEntry) (piece : List ℕ) → entries_of link ≡ Some known → answer_to link.entries piece ≡ answer_to known piece
+answers link known piece e = ap (λ (entries : List DirEntry). answer_to entries piece) (both_hold (is_up link.mode) (have_own_dns link.entries) link.entries known e).2
+
+-- ---- the bytes to come and those received
+
+abbrev bytes_told : List ℕ → Option (List ℕ)
+bytes_told bytes = Some bytes
+
+coming_put : (is : Bool) (at : ℕ) (put reply : List ℕ) → at ≤ length put → told_where is (drop at (put ++ reply)) ≡ append_known (told_where is (drop at put)) reply
+coming_put true at put reply h = ap bytes_told (drop-append-le at put reply h)
+coming_put false at put reply h = refl
+
+pub coming_after : (old new : Standing) (piece reply : List ℕ) → new ≡ with_reply old piece reply → old.at ≤ length old.put → coming_of new ≡ append_known (coming_of old) reply
+coming_after old new piece reply e h = ap (λ (s : Standing). coming_of s) e ∙ coming_put (is_up old.mode) old.at old.put reply h
+
+pub received_after : (old new : Standing) (piece reply : List ℕ) → new ≡ with_reply old piece reply → old.at ≤ length old.put → bytes_told (take new.at new.put) ≡ bytes_told (take old.at old.put)
+received_after old new piece reply e h = ap (λ (s : Standing). bytes_told (take s.at s.put)) e ∙ ap bytes_told (take-append-le old.at old.put reply h)
+
+coming_given : (is : Bool) (at n : ℕ) (put front : List ℕ) → front ≡ take n (drop at put) → told_where is (drop at put) ≡ prepend_known front (told_where is (drop (at + n) put))
+coming_given true at n put front e = rw (e, ← drop-drop n at put) (ap bytes_told (sym (take-append-drop n (drop at put))))
+coming_given false at n put front e = refl
+
+pub front_given : (old new : Standing) (n : ℕ) (rest front : List ℕ) → rest ≡ drop old.at old.put → front ≡ take n rest → new ≡ with_received old n → coming_of old ≡ prepend_known front (coming_of new)
+front_given old new n rest front r f e =
+    coming_given (is_up old.mode) old.at n old.put front (f ∙ ap (λ (bytes : List ℕ). take n bytes) r) ∙ ap (λ (s : Standing). prepend_known front (coming_of s)) (sym e)
+
+pub received_given : (old new : Standing) (n : ℕ) (rest front : List ℕ) → rest ≡ drop old.at old.put → front ≡ take n rest → new ≡ with_received old n → bytes_told (take new.at new.put) ≡ bytes_told (take old.at old.put ++ front)
+received_given old new n rest front r f e =
+    ap (λ (s : Standing). bytes_told (take s.at s.put)) e
+    ∙ ap bytes_told (take-add old.at n old.put ∙ ap (λ (bytes : List ℕ). take old.at old.put ++ bytes) (sym (f ∙ ap (λ (bytes : List ℕ). take n bytes) r)))
