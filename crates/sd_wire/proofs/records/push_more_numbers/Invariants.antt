@@ -1,0 +1,7 @@
+use Rattle.std.proofs.Common.{◌≡◌, ◌++◌, drop}
+use Rattle.sd_wire.specs.RecordLines as lines
+use Rattle.sd_wire.proofs.records.push_more_numbers.Given as goal
+
+-- what was appended, and then the numbers left, is the whole list
+abbrev pub invariant-loop-number : goal.invariant-loop-number
+invariant-loop-number l = l.out.items ++ lines.more_numbers (drop l.number-index l.numbers) ≡ l.fn.out.items ++ lines.more_numbers l.numbers

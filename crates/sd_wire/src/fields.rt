@@ -1,0 +1,141 @@
+// Fields of printed lines, and words with numbers behind them.
+ghost use Rattle.std.specs.Prelude.{◌≡◌, ◌++◌, ◌<◌, OnOk};
+ghost use Rattle.std.specs.Fmt.{decimal};
+ghost use Rattle.sd_wire.specs.Escapes as escapes;
+ghost use Rattle.sd_wire.specs.Forms as forms;
+
+use sd_base::Memory;
+use std::alloc::Global;
+
+/// Appends bytes.
+pub fn push_bytes(out: &mut Vec<u8>, bytes: &[u8]) -> Result<(), Memory>
+    ensures { OnOk result (out.new.items ≡ out.old.items ++ bytes.now) }
+{
+    out.extend_from_slice(bytes)?;
+    Ok(())
+}
+
+/// Appends a number in decimal.
+pub fn push_number(alloc: Global, out: &mut Vec<u8>, number: u64) -> Result<(), Memory>
+    ensures { OnOk result (out.new.items ≡ out.old.items ++ decimal number) }
+{
+    let digits = number.to_string(alloc)?;
+    push_bytes(out, digits.as_bytes())
+}
+
+/// Appends a word and a number.
+pub fn push_numbered(
+    alloc: Global,
+    out: &mut Vec<u8>,
+    word: &[u8],
+    number: u64,
+) -> Result<(), Memory>
+    ensures { OnOk result (out.new.items ≡ out.old.items ++ forms.numbered word.now number) }
+{
+    push_bytes(out, word)?;
+    push_number(alloc, out, number)
+}
+
+/// Appends a word and two numbers.
+pub fn push_numbered_twice(
+    alloc: Global,
+    out: &mut Vec<u8>,
+    word: &[u8],
+    number: u64,
+    second: u64,
+) -> Result<(), Memory>
+    ensures { OnOk result (out.new.items ≡ out.old.items ++ forms.numbered_twice word.now number second) }
+{
+    push_bytes(out, word)?;
+    push_number(alloc, out, number)?;
+    push_bytes(out, b" ")?;
+    push_number(alloc, out, second)
+}
+
+/// Appends a word, a number and words.
+pub fn push_numbered_within(
+    alloc: Global,
+    out: &mut Vec<u8>,
+    word: &[u8],
+    number: u64,
+    words: &[u8],
+) -> Result<(), Memory>
+    ensures { OnOk result (out.new.items ≡ out.old.items ++ forms.numbered_within word.now number words.now) }
+{
+    push_bytes(out, word)?;
+    push_number(alloc, out, number)?;
+    push_bytes(out, words)
+}
+
+fn is_escaped(byte: u8) -> bool
+    ensures { result ≡ escapes.is_escaped byte }
+{
+    byte < b' ' || byte == 127 || byte == b':' || byte == b'\\'
+}
+
+fn is_escaped_in_name(byte: u8) -> bool
+    ensures { result ≡ escapes.is_escaped_in_name byte }
+{
+    is_escaped(byte) || byte == b','
+}
+
+fn hex_digit(value: u8) -> u8
+    requires { value < 16 }
+    ensures { result ≡ escapes.hex_digit value }
+{
+    if value < 10 { value + b'0' } else { value + 87 }
+}
+
+fn push_escape(out: &mut Vec<u8>, byte: u8) -> Result<(), Memory>
+    ensures { OnOk result (out.new.items ≡ out.old.items ++ escapes.escape byte) }
+{
+    push_bytes(out, &[b'\\', hex_digit(byte / 16), hex_digit(byte % 16)])
+}
+
+fn push_byte_of_field(out: &mut Vec<u8>, byte: u8) -> Result<(), Memory>
+    ensures { OnOk result (out.new.items ≡ out.old.items ++ escapes.byte_of_field byte) }
+{
+    if is_escaped(byte) {
+        push_escape(out, byte)
+    } else {
+        push_bytes(out, &[byte])
+    }
+}
+
+fn push_byte_of_name(out: &mut Vec<u8>, byte: u8) -> Result<(), Memory>
+    ensures { OnOk result (out.new.items ≡ out.old.items ++ escapes.byte_of_name byte) }
+{
+    if is_escaped_in_name(byte) {
+        push_escape(out, byte)
+    } else {
+        push_bytes(out, &[byte])
+    }
+}
+
+/// Appends a field.
+pub fn push_field(out: &mut Vec<u8>, field: &[u8]) -> Result<(), Memory>
+    ensures { OnOk result (out.new.items ≡ out.old.items ++ escapes.field field.now) }
+{
+    for byte in field {
+        push_byte_of_field(out, *byte)?;
+    }
+    Ok(())
+}
+
+/// Appends the name of a member.
+pub fn push_member_name(out: &mut Vec<u8>, name: &[u8]) -> Result<(), Memory>
+    ensures { OnOk result (out.new.items ≡ out.old.items ++ escapes.member_name name.now) }
+{
+    for byte in name {
+        push_byte_of_name(out, *byte)?;
+    }
+    Ok(())
+}
+
+/// Appends a word and a field.
+pub fn push_worded(out: &mut Vec<u8>, word: &[u8], field: &[u8]) -> Result<(), Memory>
+    ensures { OnOk result (out.new.items ≡ out.old.items ++ forms.worded word.now field.now) }
+{
+    push_bytes(out, word)?;
+    push_field(out, field)
+}
