@@ -1,0 +1,2 @@
+mod Renewed
+mod Parts
