@@ -1,5 +1,5 @@
 // Texts and what is read of them: the rules of the lines, the table's ranges, whole files.
-use crate::{ConfFault, read_conf};
+use crate::{ConfFault, Config, read_conf};
 use sd_base::Text;
 use sd_rules::AccessMode;
 use std::alloc::Global;
@@ -25,6 +25,11 @@ fn with_ldap(alloc: Global, lines: &str) -> Result<Vec<u8>, Fail> {
     text.extend_from_slice(b"ldap_uri = ldap://s0\nldap_search_base = dc=test\n")?;
     text.extend_from_slice(lines.as_bytes())?;
     Ok(text)
+}
+
+/// Reads a text, of which nothing more is known.
+fn read(alloc: Global, text: &[u8]) -> Result<Config, ConfFault> {
+    read_conf(alloc, text)
 }
 
 #[test]
@@ -66,7 +71,7 @@ fn refuses_in_order(rt: HostRuntime) -> Result<(), Fail> {
         ),
     ];
     for (text, word, number) in cases {
-        match read_conf(rt.alloc(), text.as_bytes()) {
+        match read(rt.alloc(), text.as_bytes()) {
             Ok(_config) => assert!(rt; false, "read {text}"),
             Err(fault) => assert_eq!(rt; told(&fault), (word, number), "at {text}"),
         }
@@ -109,7 +114,7 @@ fn tells_what_is_missing(rt: HostRuntime) -> Result<(), Fail> {
         let mut text = Vec::new(rt.alloc());
         text.extend_from_slice(b"[sssd]\ndomains = test\n[domain/test]\n")?;
         text.extend_from_slice(lines.as_bytes())?;
-        match read_conf(rt.alloc(), &text) {
+        match read(rt.alloc(), &text) {
             Ok(_config) => assert!(rt; false, "nothing missing at {lines}"),
             Err(fault) => assert!(rt; is_missing(&fault, name), "at {lines}"),
         }
@@ -171,7 +176,7 @@ fn keeps_ranges(rt: HostRuntime) -> Result<(), Fail> {
     ];
     for (line, stands) in cases {
         let text = with_ldap(rt.alloc(), line)?;
-        match read_conf(rt.alloc(), &text) {
+        match read(rt.alloc(), &text) {
             Ok(_config) => assert!(rt; stands, "read {line}"),
             Err(fault) => {
                 assert!(rt; !stands, "refused {line}");
@@ -209,7 +214,7 @@ fn counts_servers(rt: HostRuntime) -> Result<(), Fail> {
         let mut text = with_ldap(rt.alloc(), "")?;
         text.extend_from_slice(many(rt.alloc(), "ldap_uri", primaries)?.as_slice())?;
         text.extend_from_slice(many(rt.alloc(), "ldap_backup_uri", backups)?.as_slice())?;
-        match read_conf(rt.alloc(), &text) {
+        match read(rt.alloc(), &text) {
             Ok(config) => {
                 assert_eq!(rt; bad, 0, "{primaries} and {backups}");
                 assert_eq!(rt; config.servers.len(), primaries.saturating_add(backups));
@@ -229,7 +234,7 @@ fn is_text(text: &Text, want: &str) -> bool {
 #[test]
 fn has_defaults(rt: HostRuntime) -> Result<(), Fail> {
     let text = with_ldap(rt.alloc(), "")?;
-    let config = read_conf(rt.alloc(), &text)?;
+    let config = read(rt.alloc(), &text)?;
     let settings = &config.settings;
     let numbers = [
         (settings.user_timeout, 5400),
@@ -283,7 +288,7 @@ homedir_substring = /home
 
 #[test]
 fn reads_an_installed_file(rt: HostRuntime) -> Result<(), Fail> {
-    let config = read_conf(rt.alloc(), INSTALLED.as_bytes())?;
+    let config = read(rt.alloc(), INSTALLED.as_bytes())?;
     assert_eq!(rt; config.unknown, 4);
     assert!(rt; is_text(&config.base, "dc=example,dc=test"));
     assert!(rt; is_text(&config.domain, "example.test"));
@@ -320,7 +325,7 @@ enumerate = true";
 
 #[test]
 fn reads_comments_and_blanks(rt: HostRuntime) -> Result<(), Fail> {
-    let config = read_conf(rt.alloc(), COMMENTED.as_bytes())?;
+    let config = read(rt.alloc(), COMMENTED.as_bytes())?;
     assert_eq!(rt; config.settings.user_timeout, 30);
     assert_eq!(rt; config.settings.group_timeout, 600);
     assert_eq!(rt; config.settings.filter_users.len(), 2);

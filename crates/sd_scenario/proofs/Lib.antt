@@ -1,6 +1,5 @@
-pub mod Pieces
-pub mod Forms
 pub mod Names
-pub mod Output
 pub mod Statuses
 pub mod Fitting
+pub mod Counting
+pub mod Output

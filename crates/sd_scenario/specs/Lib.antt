@@ -1,8 +1,8 @@
-pub mod Words
-pub mod Lines
 pub mod Directory
+pub mod Clients
+pub mod Past
+pub mod Tasks
 pub mod Prints
-pub mod Lookups
 pub mod Transcript
 pub mod Endings
 pub mod Stops

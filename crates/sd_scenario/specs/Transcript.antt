@@ -1,106 +1,113 @@
 -- What a scenario prints.
-use Rattle.std.specs.Prelude.{ℕ, Bool, true, false, ◌+◌, ◌++◌, codes, List, [], ◌∷◌, Option, Some, None, Result, Ok, Err}
-use Rattle.sd_rules.specs.declared.settings.Settings.{Settings}
-use Rattle.sd_rules.specs.declared.settings.AccessMode.TheVariants.{Permit}
-use Rattle.sd_rules.specs.Steps.{Daemon}
-use Rattle.sd_scenario.specs.declared.lines.Line.{Line}
-use Rattle.sd_scenario.specs.declared.lines.Line.TheVariants as lines
-use Rattle.sd_scenario.specs.declared.lookups.Looked.{Looked}
-use Rattle.sd_scenario.specs.declared.world.World.{World}
-use Rattle.sd_scenario.specs.Words.{lines_of}
-use Rattle.sd_scenario.specs.Lines.{line_of}
-use Rattle.sd_scenario.specs.Directory.{put, user_made}
-use Rattle.sd_scenario.specs.Prints.{full_line, printed}
-use Rattle.sd_scenario.specs.Lookups.{◌>>=◌, fetch, lookup}
+use Rattle.std.specs.Prelude.{ℕ, Bool, true, false, ◌+◌, ◌-◌, ◌++◌, length, reverse, List, [], ◌∷◌, Option, Some, None, Result, Ok, Err, if◌then◌else◌}
+use Rattle.sd_rules.specs.declared.keys.Key.{Key}
+use Rattle.sd_rules.specs.declared.keys.Key.TheVariants as keys
+use Rattle.sd_rules.specs.declared.events.Event.{Event}
+use Rattle.sd_rules.specs.declared.events.Event.TheVariants as events
+use Rattle.sd_conf.specs.declared.config.Config.{Config}
+use Rattle.sd_lines.specs.declared.lines.Line.{Line}
+use Rattle.sd_lines.specs.declared.lines.Line.TheVariants as lines
+use Rattle.sd_lines.specs.declared.lines.Mode.{Mode}
+use Rattle.sd_lines.specs.Lines.{line_of}
+use Rattle.sd_lines.specs.Head.{Head, head_of}
+use Rattle.sd_lines.specs.Faults.{config_of}
+use Rattle.sd_scenario.specs.Clients.{begun}
+use Rattle.sd_scenario.specs.Directory.{put, user_made, without}
+use Rattle.sd_scenario.specs.Prints.{full_line, journal_text}
+use Rattle.sd_scenario.specs.Tasks.{Site, World, Halt, ◌>>=◌, at_text, happened, moves_at, run_from, left_at}
 
--- the settings where a scenario gives none: the defaults of sssd.conf(5), one server, no midpoint
-abbrev pub default_settings : Settings
-default_settings = record {
-  user_timeout = 5400;
-  group_timeout = 5400;
-  negative_timeout = 15;
-  nowait = 0;
-  offline_timeout = 60;
-  hbac_refresh = 5;
-  expiration_days = 0;
-  attempts = 0;
-  delay_minutes = 5;
-  cached_auth_timeout = 0;
-  journal_limit = 1000000;
-  primaries = 1;
-  backups = 0;
-  cache_credentials = false;
-  filter_users = codes "root" ∷ [];
-  filter_groups = codes "root" ∷ [];
-  access = Permit;
-  simple = record { allow_users = []; deny_users = []; allow_groups = []; deny_groups = [] };
-  hostname = codes "client.test";
+-- where a scenario of this configuration begins: no entry, no user, each server up, moment 0, no task
+abbrev pub start : Config → World
+start c = record {
+  daemon = record { settings = c.settings; next = 1; floor = 0; past = [] };
+  site = record { users = []; changes = []; kept_out = c.settings.filter_users; moment = 0; pwfield = c.pwfield };
+  clients = [];
+  limit = c.settings.journal_limit;
+  is_held = false;
+  printed = [];
 }
 
-abbrev pub default_pwfield : List ℕ
-default_pwfield = codes "*"
+abbrev pub with_site : World → Site → World
+with_site w s = record w { site = s }
 
--- where a scenario begins: no entry, no user, moment 0, no task
-abbrev pub start : World
-start = record {
-  core = record { settings = default_settings; next = 1; floor = 0; past = [] };
-  users = [];
-  moment = 0;
-  tasks = 0;
-}
+abbrev pub user_put : Site → List ℕ → ℕ → ℕ → Site
+user_put s name uid gid = record s { users = put s.users (user_made name uid gid) }
 
--- a request that renews an answer is carried out
-abbrev pub renewed : World → List ℕ → Option ℕ → Result World ℕ
-renewed w name None = Ok w
-renewed w name (Some request) = do
-  f ← fetch w.users w.core w.moment name request
-  Ok (record w { core = f.0 })
+abbrev pub user_removed : Site → List ℕ → Site
+user_removed s name = record s { users = without s.users name }
 
--- what a lookup came to is printed, and then its answer renewed where that is due
-abbrev pub shown : World → List ℕ → Looked → Result World ℕ × List ℕ
-shown w name looked = (
-  renewed (record w { tasks = w.tasks + 1 }) name looked.renews,
-  printed default_pwfield (w.tasks + 1) looked.said,
-)
+abbrev pub server_changed : Site → ℕ → Mode → Site
+server_changed s server mode = record s { changes = record { server = server; mode = mode } ∷ s.changes }
 
-abbrev pub after_lookup : World → List ℕ → Result (Daemon × Looked) ℕ → Result World ℕ × List ℕ
-after_lookup w name (Err n) = (Err n, [])
-after_lookup w name (Ok l) = shown (record w { core = l.0 }) name l.1
+abbrev pub event_happened : World → Event → Result World Halt
+event_happened w event =
+    at_text w.printed (happened w.daemon w.site.moment event) >>= λ d. Ok (record w { daemon = d })
 
--- a lookup task: the world after it, or the number of a refusal as full, and what it printed
-abbrev pub user_got : World → List ℕ → Result World ℕ × List ℕ
-user_got w name = after_lookup w name (lookup w.users w.core w.moment name)
+-- a task is made, and outside a hold it runs
+abbrev pub run_unless_held : World → ℕ → Result World Halt
+run_unless_held w last = if w.is_held then Ok w else run_from w last
 
--- an entry is put into the directory
-abbrev pub user_put : World → List ℕ → ℕ → ℕ → World
-user_put w name uid gid = record w { users = put w.users (user_made name uid gid) }
+abbrev pub looked_up_by : World → Key → Result World Halt
+looked_up_by w key = run_unless_held (record w { clients = w.clients ++ begun key ∷ [] }) (length w.clients)
 
--- what a line does, and what it prints
-abbrev pub line_done : World → Line → Result World ℕ × List ℕ
-line_done w lines.Blank = (Ok w, [])
-line_done w lines.Bad = (Ok w, [])
-line_done w (lines.At moment) = (Ok (record w { moment = moment }), [])
-line_done w (lines.User name uid gid) = (Ok (user_put w name uid gid), [])
-line_done w (lines.GetUser name) = user_got w name
+abbrev pub hold : World → Bool → World
+hold w is_held = record w { is_held = is_held }
+
+abbrev pub journal_printed : World → World
+journal_printed w = record w { printed = w.printed ++ journal_text (reverse w.daemon.past) }
+
+-- a line about the tasks that are held; tasks are numbered from 1
+abbrev pub held_line_done : World → Line → Result World Halt
+held_line_done w lines.Hold = Ok (hold w true)
+held_line_done w lines.Go = run_from (hold w false) 0
+held_line_done w (lines.Step task count) = moves_at count w (task - 1)
+held_line_done w (lines.Abandon task) = left_at w (task - 1)
+held_line_done w _ = Ok w
+
+-- a line about the directory, its servers or the moment
+abbrev pub directory_line_done : World → Line → Result World Halt
+directory_line_done w (lines.At moment) = Ok (with_site w (record w.site { moment = moment }))
+directory_line_done w (lines.User name uid gid) = Ok (with_site w (user_put w.site name uid gid))
+directory_line_done w (lines.RemoveUser name) = Ok (with_site w (user_removed w.site name))
+directory_line_done w (lines.Server server mode) = Ok (with_site w (server_changed w.site server mode))
+directory_line_done w _ = Ok w
+
+-- what a line does
+abbrev pub line_done : World → Line → Result World Halt
+line_done w (lines.GetUser name) = looked_up_by w (keys.User name)
+line_done w (lines.GetUid uid) = looked_up_by w (keys.Uid uid)
+line_done w (lines.Void what) = event_happened w (events.Void what)
+line_done w lines.Offline = event_happened w events.Offline
+line_done w lines.Online = event_happened w events.Online
+line_done w lines.Journal = Ok (journal_printed w)
+line_done w lines.Hold = held_line_done w lines.Hold
+line_done w lines.Go = held_line_done w lines.Go
+line_done w (lines.Step task count) = held_line_done w (lines.Step task count)
+line_done w (lines.Abandon task) = held_line_done w (lines.Abandon task)
+line_done w line = directory_line_done w line
 
 -- what lines print, and whether a full journal ended them
 pub record Transcript : Type 0 where
   pub text : List ℕ
   pub is_full : Bool
 
-abbrev pub then_printed : List ℕ → Transcript → Transcript
-then_printed front rest = record { text = front ++ rest.text; is_full = rest.is_full }
+abbrev pub halted : Halt → Transcript
+halted h = record { text = h.printed ++ full_line h.number; is_full = true }
 
--- a line's text, and then that of the lines behind it, or the end by a full journal
-abbrev pub transcript_after : Result World ℕ → List ℕ → (World → Transcript) → Transcript
-transcript_after (Err n) text rest = record { text = text ++ full_line n; is_full = true }
-transcript_after (Ok w) text rest = then_printed text (rest w)
+-- a line, and then those behind it, or the end by a full journal
+abbrev pub transcript_after : Result World Halt → (World → Transcript) → Transcript
+transcript_after (Err h) rest = halted h
+transcript_after (Ok w) rest = rest w
 
 abbrev pub transcript_on : World → List (List ℕ) → Transcript
-transcript_on w [] = record { text = []; is_full = false }
-transcript_on w (l ∷ ls) =
-    transcript_after (line_done w (line_of l)).0 (line_done w (line_of l)).1 (λ v. transcript_on v ls)
+transcript_on w [] = record { text = w.printed; is_full = false }
+transcript_on w (l ∷ ls) = transcript_after (line_done w (line_of l)) (λ v. transcript_on v ls)
+
+-- by the configuration; where it is refused nothing is done
+abbrev pub transcript_by : Result Config ℕ → List (List ℕ) → Transcript
+transcript_by (Ok c) body = transcript_on (start c) body
+transcript_by (Err n) body = record { text = []; is_full = false }
 
 -- the transcript of a scenario's text
-abbrev pub transcript : List ℕ → Transcript
-transcript text = transcript_on start (lines_of text)
+unfoldable pub transcript : List ℕ → Transcript
+transcript text = transcript_by (config_of (head_of text)) (head_of text).body

@@ -1,14 +1,19 @@
 // How a scenario ends: its status and what it writes.
-ghost use Rattle.std.specs.Prelude.{◌≡◌, ◌≢◌, ◌<◌, ◌⊎◌, ◌^◌, ◌++◌, length, IfOk, codes};
+ghost use Rattle.std.specs.Prelude.{◌≡◌, ◌≢◌, ◌<◌, ◌+◌, ◌⊎◌, ◌^◌, length, IfOk, Ok, codes, true};
 ghost use Rattle.std.specs.Io.KnownBytes.{Appends};
 ghost use Rattle.sd_base.specs.Causes.{Rose};
 ghost use Rattle.sd_base.specs.Written.{AppendsFront};
+ghost use Rattle.std.specs.Option.{option_copied, option_map_or};
+ghost use Rattle.sd_lines.specs.Faults.{first_bad_by, has_few_servers};
+ghost use Rattle.sd_lines.specs.Seen.{head_seen};
 ghost use Rattle.sd_scenario.specs.Endings as endings;
+ghost use Rattle.sd_scenario.specs.Transcript.{transcript_by};
 
-use crate::lines::first_bad;
-use crate::prints::{push_bytes, push_number};
 use crate::runs::{Printed, run};
 use sd_base::{Bytes, Memory, Sink, WriteFault, write_all};
+use sd_conf::Config;
+use sd_lines::{ConfigRead, Head, config_of, first_bad_behind, head_of};
+use sd_wire::fields::{push_bytes, push_number};
 use std::alloc::Global;
 
 /// The status that a program ends with.
@@ -63,26 +68,39 @@ fn ending_at_line(alloc: Global, number: u64) -> Result<Ending, Memory>
 }
 
 /// The end of a scenario that was carried out.
-fn ending_of_run(alloc: Global, printed: &Printed) -> Result<Ending, Memory>
-    ensures { IfOk result (λ ending. ending ≡ endings.ending_by_journal printed.now.is_full printed.now.text.items) }
+fn ending_of_run(printed: Printed) -> Ending
+    ensures { result ≡ endings.ending_by_journal printed.is_full printed.text }
 {
     let status = if printed.is_full { JOURNAL_FULL } else { DONE };
-    Ok(Ending {
+    Ending {
         status,
-        output: Bytes::from_bytes(alloc, printed.text.as_slice())?,
-    })
+        output: printed.text,
+    }
 }
 
+/// The end of a scenario whose head gives a configuration.
+fn ending_behind(alloc: Global, head: &Head<'_>, config: Config) -> Result<Ending, Memory>
+    requires few { has_few_servers config ≡ true }
+    requires room { head.now.number + option_map_or (λ bytes. length bytes + 1) (option_copied head.now.body) 0 < 2 ^ 33 }
+    ensures { IfOk result (λ ending. ending ≡ endings.ending_by_bad (first_bad_by (head_seen head.now) (Ok config)) (transcript_by (Ok config) (head_seen head.now).body)) }
+{
+    if let Some(number) = first_bad_behind(alloc, head, &config)? {
+        return ending_at_line(alloc, number);
+    }
+    Ok(ending_of_run(run(alloc, config, head.body)?))
+}
+
+#[tactic(auto, unfolding(sd_lines::specs::Faults::first_bad, crate::specs::Transcript::transcript))]
 /// The end of a scenario of this text: its lines are all checked before the first is carried out.
 pub fn ending_of(alloc: Global, text: &[u8]) -> Result<Ending, Memory>
     requires { length text.now < 2 ^ 32 }
     ensures { IfOk result (λ ending. ending ≡ endings.ending_by_lines text.now) }
 {
-    if let Some(number) = first_bad(alloc, text)? {
-        return ending_at_line(alloc, number);
+    let head = head_of(alloc, text)?;
+    match config_of(alloc, &head)? {
+        ConfigRead::BadLine(number) => ending_at_line(alloc, number),
+        ConfigRead::Config(config) => ending_behind(alloc, &head, config),
     }
-    let printed = run(alloc, text)?;
-    ending_of_run(alloc, &printed)
 }
 
 /// Writes what an ending writes.

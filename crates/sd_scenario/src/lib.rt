@@ -1,17 +1,15 @@
-// The scenario command: lines of text that make up a directory and ask the daemon, and the answers printed.
+// The scenario command: lines of text that make up a directory and drive the daemon, and what is printed.
 #![tactic(auto)]
 
+pub mod client;
 pub mod command;
 pub mod directory;
 pub mod endings;
-pub mod lines;
-pub mod lookups;
-pub mod prints;
+pub mod moves;
 pub mod runs;
 pub mod stop;
 #[cfg(test)]
 mod tests;
-pub mod words;
 pub mod world;
 
 pub use command::scenario;

@@ -1,0 +1,76 @@
+-- Lines, words, numbers and names of a scenario's text.
+use Rattle.std.specs.Prelude.{ℕ, Bool, true, false, ◌&&◌, ◌||◌, ◌==◌, ◌+◌, ◌-◌, ◌*◌, not, nat_le, List, [], ◌∷◌, Option, Some, None, filter, fold, length, if◌then◌else◌}
+use Rattle.std.specs.List.{slice_split, list_all}
+
+abbrev pub is_empty : List ℕ → Bool
+is_empty [] = true
+is_empty (b ∷ bs) = false
+
+-- the lines, without the line feeds that end them
+abbrev pub lines_of : List ℕ → List (List ℕ)
+lines_of text = slice_split (λ b. b == 10) text
+
+-- the words of a line, which spaces part
+abbrev pub words_of : List ℕ → List (List ℕ)
+words_of line = filter (λ w. not (is_empty w)) (slice_split (λ b. b == 32) line)
+
+-- the bytes before the first that parts, and those after it, where there is one
+abbrev pub cut_of : ℕ → List ℕ → List ℕ × Option (List ℕ)
+cut_of by [] = ([], None)
+cut_of by (b ∷ bs) = if b == by then ([], Some bs) else (b ∷ (cut_of by bs).0, (cut_of by bs).1)
+
+-- the pieces of what is left, where something is
+abbrev pub pieces_in : ℕ → Option (List ℕ) → List (List ℕ)
+pieces_in by None = []
+pieces_in by (Some bytes) = slice_split (λ b. b == by) bytes
+
+abbrev pub is_digit : ℕ → Bool
+is_digit b = nat_le 48 b && nat_le b 57
+
+-- the number that digits stand for
+abbrev pub value_of : List ℕ → ℕ
+value_of digits = fold (λ n b. 10 * n + (b - 48)) 0 digits
+
+-- a decimal number without a sign, at most the limit
+abbrev pub number_of : ℕ → List ℕ → Option ℕ
+number_of limit w =
+    if not (is_empty w) && (list_all is_digit w && nat_le (value_of w) limit) then Some (value_of w) else None
+
+-- a letter, a digit, a dot, an underscore or a hyphen
+abbrev pub is_name_byte : ℕ → Bool
+is_name_byte b =
+    is_digit b || ((nat_le 65 b && nat_le b 90) || ((nat_le 97 b && nat_le b 122) || ((b == 46) || ((b == 95) || (b == 45)))))
+
+-- a name of 1 to 255 such bytes
+abbrev pub is_short_name : List ℕ → Bool
+is_short_name w = not (is_empty w) && (nat_le (length w) 255 && list_all is_name_byte w)
+
+-- a printed byte of ASCII, but for the space
+abbrev pub is_visible : ℕ → Bool
+is_visible b = nat_le 33 b && nat_le b 126
+
+-- a word of 1 to 255 such bytes
+abbrev pub is_word : List ℕ → Bool
+is_word w = not (is_empty w) && (nat_le (length w) 255 && list_all is_visible w)
+
+-- the words, where they are so many
+abbrev pub one_of : List (List ℕ) → Option (List ℕ)
+one_of (a ∷ []) = Some a
+one_of _ = None
+
+abbrev pub pair_of : List (List ℕ) → Option (List ℕ × List ℕ)
+pair_of (a ∷ b ∷ []) = Some (a, b)
+pair_of _ = None
+
+abbrev pub triple_of : List (List ℕ) → Option (List ℕ × (List ℕ × List ℕ))
+triple_of (a ∷ b ∷ c ∷ []) = Some (a, (b, c))
+triple_of _ = None
+
+-- a line without the spaces at its front
+abbrev pub without_spaces : List ℕ → List ℕ
+without_spaces [] = []
+without_spaces (b ∷ bs) = if b == 32 then without_spaces bs else b ∷ bs
+
+-- the first word of a line, and what stands behind the space that ends it, where one does
+abbrev pub first_word : List ℕ → List ℕ × Option (List ℕ)
+first_word line = cut_of 32 (without_spaces line)

@@ -1,0 +1,192 @@
+// Pieces, words, numbers and names of a scenario's text.
+ghost use Rattle.std.specs.Prelude.{◌≡◌, ℕ, ◌<◌, ◌≤◌, ◌^◌, ◌-◌, ◌+◌, ◌==◌, ◌∷◌, min, length, map, IfOk, IfSome};
+ghost use Rattle.std.specs.List.{slice_split, list_all};
+ghost use Rattle.std.specs.Option.{option_copied, option_map};
+ghost use Rattle.sd_lines.specs.Words as words;
+
+use sd_base::Memory;
+use std::alloc::Global;
+
+/// What stands before the first byte that parts, and what stands behind it.
+pub fn cut_at_first(by: u8, bytes: &[u8]) -> (&[u8], Option<&[u8]>)
+    ensures { (result.0.now, option_copied result.1) ≡ words.cut_of by bytes.now }
+{
+    for (at, byte) in bytes.iter().enumerate() {
+        if *byte == by {
+            return (&bytes[..at], Some(&bytes[at + 1..]));
+        }
+    }
+    (bytes, None)
+}
+
+/// The first piece of some bytes that a byte parts, and what comes behind it, where there is more.
+#[tactic(auto, using(crate::proofs::Pieces::pieces_by_cut))]
+pub fn cut(by: u8, bytes: &[u8]) -> (&[u8], Option<&[u8]>)
+    ensures pieces { slice_split (λ b. b == by) bytes.now ≡ result.0.now ∷ words.pieces_in by (option_copied result.1) }
+    ensures shorter { IfSome (option_copied result.1) (λ rest. length rest < length bytes.now) }
+{
+    cut_at_first(by, bytes)
+}
+
+/// The words of a line.
+pub fn words_of(alloc: Global, line: &[u8]) -> Result<Vec<&[u8]>, Memory>
+    ensures { IfOk result (λ ws. map (λ w. w.now) ws.items ≡ words.words_of line.now) }
+{
+    let mut ws = Vec::new(alloc);
+    let mut left = Some(line);
+    while let Some(bytes) = left {
+        let (word, rest) = cut(b' ', bytes);
+        if !word.is_empty() {
+            ws.push(word)?;
+        }
+        left = rest;
+    }
+    Ok(ws)
+}
+
+fn is_digit(byte: u8) -> bool
+    ensures { result ≡ words.is_digit byte }
+{
+    b'0' <= byte && byte <= b'9'
+}
+
+fn are_digits(word: &[u8]) -> bool
+    ensures { result ≡ list_all words.is_digit word.now }
+{
+    word.iter().all(|byte| is_digit(*byte))
+}
+
+/// The value of digits, or the greatest u128 where it is more.
+fn value_of(word: &[u8]) -> u128
+    ensures { result ≡ min (words.value_of word.now) (2 ^ 128 - 1) }
+{
+    let mut value = 0u128;
+    for byte in word {
+        value = value
+            .saturating_mul(10)
+            .saturating_add(u128::from(byte.saturating_sub(b'0')));
+    }
+    value
+}
+
+/// A decimal number without a sign, at most the limit.
+pub fn number_of(limit: u64, word: &[u8]) -> Option<u64>
+    ensures { result ≡ words.number_of limit word.now }
+{
+    if word.is_empty() || !are_digits(word) {
+        return None;
+    }
+    let value = value_of(word);
+    if value <= u128::from(limit) {
+        Some(value as u64)
+    } else {
+        None
+    }
+}
+
+fn is_name_byte(byte: u8) -> bool
+    ensures { result ≡ words.is_name_byte byte }
+{
+    is_digit(byte)
+        || (b'A' <= byte && byte <= b'Z')
+        || (b'a' <= byte && byte <= b'z')
+        || byte == b'.'
+        || byte == b'_'
+        || byte == b'-'
+}
+
+fn are_name_bytes(word: &[u8]) -> bool
+    ensures { result ≡ list_all words.is_name_byte word.now }
+{
+    word.iter().all(|byte| is_name_byte(*byte))
+}
+
+fn is_visible(byte: u8) -> bool
+    ensures { result ≡ words.is_visible byte }
+{
+    b'!' <= byte && byte <= b'~'
+}
+
+fn are_visible(word: &[u8]) -> bool
+    ensures { result ≡ list_all words.is_visible word.now }
+{
+    word.iter().all(|byte| is_visible(*byte))
+}
+
+/// Whether a word is a name of letters, digits, dots, underscores and hyphens.
+pub fn is_short_name(word: &[u8]) -> bool
+    ensures { result ≡ words.is_short_name word.now }
+{
+    if word.is_empty() {
+        return false;
+    }
+    if word.len() > 255 {
+        return false;
+    }
+    are_name_bytes(word)
+}
+
+/// Whether a word is one of visible bytes.
+pub fn is_word(word: &[u8]) -> bool
+    ensures { result ≡ words.is_word word.now }
+{
+    if word.is_empty() {
+        return false;
+    }
+    if word.len() > 255 {
+        return false;
+    }
+    are_visible(word)
+}
+
+/// The one word, where there is one.
+#[tactic(auto, using(crate::proofs::Forms::others))]
+pub fn one_of<'a>(ws: &[&'a [u8]]) -> Option<&'a [u8]>
+    ensures { option_copied result ≡ words.one_of (map (λ w. w.now) ws.now) }
+{
+    let [word] = ws else {
+        return None;
+    };
+    Some(*word)
+}
+
+/// The two words, where there are two.
+#[tactic(auto, using(crate::proofs::Forms::others))]
+pub fn pair_of<'a>(ws: &[&'a [u8]]) -> Option<(&'a [u8], &'a [u8])>
+    ensures { option_map (λ pair. (pair.0.now, pair.1.now)) result ≡ words.pair_of (map (λ w. w.now) ws.now) }
+{
+    let [first, second] = ws else {
+        return None;
+    };
+    Some((*first, *second))
+}
+
+/// The three words, where there are three.
+#[tactic(auto, using(crate::proofs::Forms::others))]
+pub fn triple_of<'a>(ws: &[&'a [u8]]) -> Option<(&'a [u8], &'a [u8], &'a [u8])>
+    ensures { option_map (λ triple. (triple.0.now, (triple.1.now, triple.2.now))) result ≡ words.triple_of (map (λ w. w.now) ws.now) }
+{
+    let [first, second, third] = ws else {
+        return None;
+    };
+    Some((*first, *second, *third))
+}
+
+/// A line without the spaces at its front.
+fn without_spaces(line: &[u8]) -> &[u8]
+    ensures { result.now ≡ words.without_spaces line.now }
+{
+    for (at, byte) in line.iter().enumerate() {
+        if *byte != b' ' {
+            return &line[at..];
+        }
+    }
+    &line[line.len()..]
+}
+
+/// The first word of a line, and what stands behind the space that ends it, where one does.
+pub fn first_word(line: &[u8]) -> (&[u8], Option<&[u8]>)
+    ensures { (result.0.now, option_copied result.1) ≡ words.first_word line.now }
+{
+    cut_at_first(b' ', without_spaces(line))
+}

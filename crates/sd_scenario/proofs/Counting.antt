@@ -1,0 +1,37 @@
+-- Moves that are counted down.
+use Rattle.std.proofs.Common.{◌≡◌, ◌<◌, ◌-◌, ◌∙◌, ℕ, zero, suc, Bool, true, false, cond, Result, Ok, Err, arith, refl, subst, sym, ap}
+use Rattle.std.specs.Prelude.{slice_get}
+use Rattle.sd_scenario.specs.Tasks.{World, Halt, ◌>>=◌, move_at, moves_at, client_moved_at, is_ready_at, next_up, run_on}
+
+pub move_counted : (n : ℕ) (w v : World) (place : ℕ) → 0 < n → move_at w place ≡ Ok v → moves_at (n - 1) v place ≡ moves_at n w place
+move_counted zero w v place some h = absurd (omega (arith, some))
+move_counted (suc n) w v place some h =
+    let e : suc n - 1 ≡ n = omega arith in
+    subst (λ (m : ℕ). moves_at m v place ≡ moves_at (suc n) w place) (sym e) (sym (ap (λ (r : Result World Halt). r >>= λ u. moves_at n u place) h))
+
+pub move_stopped : (n : ℕ) (w : World) (place : ℕ) (h : Halt) → 0 < n → move_at w place ≡ Err h → moves_at n w place ≡ Err h
+move_stopped zero w place h some stop = absurd (omega (arith, some))
+move_stopped (suc n) w place h some stop = ap (λ (r : Result World Halt). r >>= λ u. moves_at n u place) stop
+
+pub run_counted : (n : ℕ) (w v : World) (last : ℕ) → 0 < n → is_ready_at w.daemon.past (slice_get w.clients (next_up w last)) ≡ true
+    → client_moved_at w (next_up w last) ≡ Ok v → run_on (n - 1) v (next_up w last) ≡ run_on n w last
+run_counted zero w v last some ready h = absurd (omega (arith, some))
+run_counted (suc n) w v last some ready h =
+    let next : ℕ = next_up w last in
+    let e : suc n - 1 ≡ n = omega arith in
+    let by : (b : Bool) → b ≡ true → run_on n v next ≡ cond b (client_moved_at w next >>= λ u. run_on n u next) (Ok w) =
+    λ b yes. subst (λ (c : Bool). run_on n v next ≡ cond c (client_moved_at w next >>= λ u. run_on n u next) (Ok w)) (sym yes) (sym (ap (λ (r : Result World Halt). r >>= λ u. run_on n u next) h)) in
+    subst (λ (m : ℕ). run_on m v next ≡ run_on (suc n) w last) (sym e) (by (is_ready_at w.daemon.past (slice_get w.clients next)) ready)
+
+pub run_rests : (n : ℕ) (w : World) (last : ℕ) → is_ready_at w.daemon.past (slice_get w.clients (next_up w last)) ≡ false → run_on n w last ≡ Ok w
+run_rests zero w last rest = refl
+run_rests (suc n) w last rest =
+    ap (λ (b : Bool). cond b (client_moved_at w (next_up w last) >>= λ u. run_on n u (next_up w last)) (Ok w)) rest
+
+pub run_stopped : (n : ℕ) (w : World) (last : ℕ) (h : Halt) → 0 < n → is_ready_at w.daemon.past (slice_get w.clients (next_up w last)) ≡ true
+    → client_moved_at w (next_up w last) ≡ Err h → run_on n w last ≡ Err h
+run_stopped zero w last h some ready stop = absurd (omega (arith, some))
+run_stopped (suc n) w last h some ready stop =
+    let next : ℕ = next_up w last in
+    ap (λ (b : Bool). cond b (client_moved_at w next >>= λ u. run_on n u next) (Ok w)) ready
+    ∙ ap (λ (r : Result World Halt). r >>= λ u. run_on n u next) stop

@@ -1,0 +1,225 @@
+// A client of a scenario: its task, and what the entries that it made left open.
+ghost use Rattle.std.specs.Prelude.{◌≡◌, ℕ, ◌+◌, ◌++◌, ◌≤◌, length, true, false, IfOk, OnOk};
+ghost use Rattle.sd_rules.specs.Keys.{is_user_key};
+ghost use Rattle.sd_rules.specs.Lookups.{is_client_key};
+ghost use Rattle.sd_rules.specs.Scripts.{awaits_reply, answers_search, is_out_of_memory};
+ghost use Rattle.sd_scenario.specs.Clients as clients;
+
+use sd_base::Memory;
+use sd_nss::NssTask;
+use sd_rules::{Event, Fetched, Given, Key, Need, Reply, Task, Verdict};
+use std::alloc::Global;
+use std::marker::Model;
+
+/// A client of a scenario.
+#[derive(Drop)]
+pub struct Client {
+    task: NssTask,
+    /// The requests that it leads, by the numbers of their entries.
+    leads: Vec<u64>,
+    /// The ticket that it waits with.
+    ticket: Option<u64>,
+    /// Whether its answer was printed.
+    is_told: bool,
+    is_over: bool,
+}
+
+impl Model for Client {
+    ghost use Rattle.std.specs.Prelude.{◌≡◌, true};
+    ghost use Rattle.sd_rules.specs.Keys.{is_user_key};
+    ghost use Rattle.sd_scenario.specs.Clients as clients;
+
+    ghost Value = { clients.Client };
+
+    ghost view = { λ c. record {
+      task = c.task;
+      leads = c.leads.items;
+      ticket = c.ticket;
+      is_told = c.is_told;
+      is_over = c.is_over;
+    } };
+
+    ghost invariant = { λ c. is_user_key c.task.key ≡ true };
+}
+
+/// The request or attempt that an event is about.
+pub fn about(event: &Event) -> Option<u64>
+    ensures { result ≡ clients.about event.now }
+{
+    match event {
+        Event::Pick(number)
+        | Event::Fall(number, _, _)
+        | Event::Answer(number, _)
+        | Event::Refuse(number, _)
+        | Event::Outage(number)
+        | Event::Abandon(number)
+        | Event::LoginOnline(number, _)
+        | Event::LoginTry(number, _, _) => Some(*number),
+        _ => None,
+    }
+}
+
+fn opened(reply: Reply) -> Option<u64>
+    ensures { result ≡ clients.opened reply }
+{
+    match reply {
+        Reply::Lead(number)
+        | Reply::Refresh(_, number)
+        | Reply::Bind(number)
+        | Reply::Cached(number, _) => Some(number),
+        _ => None,
+    }
+}
+
+fn is_closing(reply: Reply) -> bool
+    ensures { result ≡ clients.is_closing reply }
+{
+    matches!(
+        reply,
+        Reply::Closed | Reply::Shut(_) | Reply::Tried(Verdict::Accepted)
+    )
+}
+
+fn place_in(numbers: &[u64], number: u64) -> usize
+    ensures { result ≡ clients.place_in numbers.now number }
+{
+    for (place, other) in numbers.iter().enumerate() {
+        if *other == number {
+            return place;
+        }
+    }
+    numbers.len()
+}
+
+fn take_out(numbers: &mut Vec<u64>, number: Option<u64>)
+    ensures { numbers.new.items ≡ clients.without numbers.old.items number }
+{
+    let Some(number) = number else {
+        return;
+    };
+    let place = place_in(numbers.as_slice(), number);
+    if place < numbers.len() {
+        numbers.remove(place);
+    }
+}
+
+fn put_in(numbers: &mut Vec<u64>, number: Option<u64>) -> Result<(), Memory>
+    ensures { OnOk result (numbers.new.items ≡ clients.with_one numbers.old.items number) }
+{
+    if let Some(number) = number {
+        numbers.push(number)?;
+    }
+    Ok(())
+}
+
+fn update_leads(leads: &mut Vec<u64>, number: Option<u64>, reply: Reply) -> Result<(), Memory>
+    ensures { OnOk result (leads.new.items ≡ clients.leads_after leads.old.items number reply) }
+{
+    if is_closing(reply) {
+        take_out(leads, number);
+        return Ok(());
+    }
+    put_in(leads, opened(reply))
+}
+
+fn ticket_after(waiting: Option<u64>, reply: Reply) -> Option<u64>
+    ensures { result ≡ clients.ticket_after waiting reply }
+{
+    match reply {
+        Reply::Join(_, ticket) => Some(ticket),
+        Reply::Took(_) | Reply::NoTicket => None,
+        _ => waiting,
+    }
+}
+
+impl Client {
+    /// A client that looks up a user.
+    pub fn new(alloc: Global, key: Key) -> Client
+        requires { is_user_key key ≡ true }
+        ensures { result ≡ clients.begun key }
+    {
+        Client {
+            task: NssTask::new(key),
+            leads: Vec::new(alloc),
+            ticket: None,
+            is_told: false,
+            is_over: false,
+        }
+    }
+
+    #[tactic(auto, using(crate::proofs::Fitting::course_needs, crate::proofs::Fitting::replied_says_nothing, crate::proofs::Fitting::fetch_says_nothing))]
+    /// What its task needs next. What is to be told counts as told from here on, and the client ends where nothing is needed.
+    pub fn need(&mut self) -> Result<Need, Memory>
+        ensures need { IfOk result (λ need. need ≡ clients.need_of self.old) }
+        ensures asked { OnOk result (self.new ≡ clients.asked self.old) }
+        ensures users { IfOk result (λ need. clients.needs_users need ≡ true) }
+        ensures stays { IfOk result (λ need. awaits_reply need ≡ true → clients.need_of self.new ≡ need) }
+        ensures searches { IfOk result (λ need. clients.is_fetch need ≡ true → clients.need_of self.new ≡ need) }
+    {
+        let need = self.task.need()?;
+        match &need {
+            Need::Say(_) => self.is_told = true,
+            Need::End => self.is_over = true,
+            _ => {}
+        }
+        Ok(need)
+    }
+
+    #[tactic(auto, using(crate::proofs::Fitting::course_takes))]
+    /// Takes the reply to its event about this number.
+    pub fn replied(&mut self, number: Option<u64>, given: Given) -> Result<(), Memory>
+        requires awaited { awaits_reply (clients.need_of self.old) ≡ true }
+        requires users { clients.is_user_found given.found ≡ true }
+        ensures { OnOk result (self.new ≡ clients.replied self.old number given) }
+    {
+        update_leads(&mut self.leads, number, given.reply)?;
+        self.ticket = ticket_after(self.ticket, given.reply);
+        self.task.replied(given)
+    }
+
+    /// Takes a server's answer.
+    pub fn fetched(&mut self, fetched: Fetched)
+        requires awaited { answers_search (clients.need_of self.old) fetched ≡ true }
+        requires told { is_out_of_memory fetched ≡ false }
+        ensures { self.new ≡ clients.fetched self.old fetched }
+    {
+        self.task.fetched(fetched);
+    }
+
+    /// The requests that it leads.
+    pub fn leads(&self) -> &[u64]
+        ensures { result.now ≡ self.now.leads }
+    {
+        self.leads.as_slice()
+    }
+
+    /// The ticket that it waits with.
+    pub fn ticket(&self) -> Option<u64>
+        ensures { result ≡ self.now.ticket }
+    {
+        self.ticket
+    }
+
+    /// Whether its answer was printed.
+    pub fn is_told(&self) -> bool
+        ensures { result ≡ self.now.is_told }
+    {
+        self.is_told
+    }
+
+    /// Whether it has ended.
+    pub fn is_over(&self) -> bool
+        ensures { result ≡ self.now.is_over }
+    {
+        self.is_over
+    }
+
+    /// Leads nothing and waits for nothing from here on.
+    pub fn leave(&mut self)
+        ensures { self.new ≡ clients.gone self.old }
+    {
+        self.leads.clear();
+        self.ticket = None;
+        self.is_over = true;
+    }
+}
