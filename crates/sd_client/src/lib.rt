@@ -10,3 +10,6 @@ mod step;
 mod unbinding;
 
 pub use client::{Client, decides_once};
+
+#[cfg(test)]
+mod tests;
