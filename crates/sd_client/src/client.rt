@@ -86,15 +86,15 @@ impl<L: DirectoryLink> Client<L> {
         ensures used { (self.new.next ≡ self.old.next) ⊎ (self.new.next ≡ self.old.next + 1) }
         // A request that was not sent: nothing came of it but the link's failure or want of memory.
         ensures unsent { self.new.next ≡ self.old.next → IsUnsent (L.sent self.old.link) (L.sent self.new.link) (L.asked self.old.link) (L.asked self.new.link) (L.received self.old.link) (L.received self.new.link) (L.coming self.old.link) (L.coming self.new.link) self.old.received self.new.received }
-        ensures no_reply { self.old.failed ≡ None → self.new.next ≡ self.old.next → IsUnsearched result (Rose (L.faults self.old.link) (L.faults self.new.link)) }
+        ensures no_reply { self.old.failed ≡ None → self.new.next ≡ self.old.next → IsUnsearched result (Rose (L.faults self.old.link) (L.faults self.new.link) × L.breaks self.new.link) }
         // A request that was sent: the bytes received decide.
         ensures sent { self.new.next ≡ self.old.next + 1 → IsSent (search_message self.old.next (search_value request.now)) (L.answer self.old.link (message_bytes (search_message self.old.next (search_value request.now)))) (L.sent self.old.link) (L.sent self.new.link) (L.asked self.old.link) (L.asked self.new.link) (L.received self.old.link) (L.received self.new.link) (L.coming self.old.link) (L.coming self.new.link) self.old.received self.new.received }
-        ensures reply { self.new.next ≡ self.old.next + 1 → IsSearched result (decided Request.Search self.old.next self.old.at self.new.received) self.new.at (Rose (L.faults self.old.link) (L.faults self.new.link)) }
+        ensures reply { self.new.next ≡ self.old.next + 1 → IsSearched result (decided Request.Search self.old.next self.old.at self.new.received) self.new.at (Rose (L.faults self.old.link) (L.faults self.new.link) × L.breaks self.new.link) }
         ensures fails { self.old.failed ≡ None → self.new.failed ≡ failure_by_search result }
         ensures placed { self.old.failed ≡ None → IsPlacedBySearch result self.old.at self.new.at }
         ensures within { self.new.at ≤ length self.new.received }
         ensures short { length self.new.received ≤ 67108865 }
-        ensures entries { L.entries self.new.link ≡ L.entries self.old.link }
+        ensures behind { L.behind self.new.link ≡ L.behind self.old.link }
         ensures later { L.faults self.old.link ≤ L.faults self.new.link }
     {
         if let Some(why) = self.state.failed {
@@ -126,15 +126,15 @@ impl<L: DirectoryLink> Client<L> {
         ensures used { (self.new.next ≡ self.old.next) ⊎ (self.new.next ≡ self.old.next + 1) }
         // A request that was not sent: nothing came of it but the link's failure or want of memory.
         ensures unsent { self.new.next ≡ self.old.next → IsUnsent (L.sent self.old.link) (L.sent self.new.link) (L.asked self.old.link) (L.asked self.new.link) (L.received self.old.link) (L.received self.new.link) (L.coming self.old.link) (L.coming self.new.link) self.old.received self.new.received }
-        ensures no_reply { self.old.failed ≡ None → self.new.next ≡ self.old.next → IsUnbound result (Rose (L.faults self.old.link) (L.faults self.new.link)) }
+        ensures no_reply { self.old.failed ≡ None → self.new.next ≡ self.old.next → IsUnbound result (Rose (L.faults self.old.link) (L.faults self.new.link) × L.breaks self.new.link) }
         // A request that was sent: the bytes received decide.
         ensures sent { self.new.next ≡ self.old.next + 1 → IsSent (bind_message self.old.next dn.now password.now) (L.answer self.old.link (message_bytes (bind_message self.old.next dn.now password.now))) (L.sent self.old.link) (L.sent self.new.link) (L.asked self.old.link) (L.asked self.new.link) (L.received self.old.link) (L.received self.new.link) (L.coming self.old.link) (L.coming self.new.link) self.old.received self.new.received }
-        ensures reply { self.new.next ≡ self.old.next + 1 → IsBound result (decided Request.Bind self.old.next self.old.at self.new.received) self.new.at (Rose (L.faults self.old.link) (L.faults self.new.link)) }
+        ensures reply { self.new.next ≡ self.old.next + 1 → IsBound result (decided Request.Bind self.old.next self.old.at self.new.received) self.new.at (Rose (L.faults self.old.link) (L.faults self.new.link) × L.breaks self.new.link) }
         ensures fails { self.old.failed ≡ None → self.new.failed ≡ failure_by_bind result }
         ensures placed { self.old.failed ≡ None → IsPlacedByBind result self.old.at self.new.at }
         ensures within { self.new.at ≤ length self.new.received }
         ensures short { length self.new.received ≤ 67108865 }
-        ensures entries { L.entries self.new.link ≡ L.entries self.old.link }
+        ensures behind { L.behind self.new.link ≡ L.behind self.old.link }
         ensures later { L.faults self.old.link ≤ L.faults self.new.link }
     {
         if let Some(why) = self.state.failed {
@@ -164,7 +164,7 @@ impl<L: DirectoryLink> Client<L> {
         ensures failed { (self.failed ≡ None → ⊥) → result ≡ self.link }
         ensures unbinds { self.failed ≡ None → ((L.sent result ≡ with_piece (L.sent self.link) (message_bytes (unbind_message self.next))) × (L.asked result ≡ with_message (L.asked self.link) (unbind_message self.next))) ⊎ (Rose (L.faults self.link) (L.faults result) × (L.sent result ≡ L.sent self.link) × (L.asked result ≡ L.asked self.link)) }
         ensures received { L.received result ≡ L.received self.link }
-        ensures entries { L.entries result ≡ L.entries self.link }
+        ensures behind { L.behind result ≡ L.behind self.link }
         ensures later { L.faults self.link ≤ L.faults result }
     {
         let Client {
@@ -188,7 +188,7 @@ fn send_unbind<L: DirectoryLink>(link: &mut L, id: u32) -> bool
     ensures unsent { result ≡ false → (L.sent link.new ≡ L.sent link.old) × (L.asked link.new ≡ L.asked link.old) }
     ensures failed { result ≡ false → Rose (L.faults link.old) (L.faults link.new) }
     ensures received { L.received link.new ≡ L.received link.old }
-    ensures entries { L.entries link.new ≡ L.entries link.old }
+    ensures behind { L.behind link.new ≡ L.behind link.old }
     ensures later { L.faults link.old ≤ L.faults link.new }
 {
     let (bytes, count) = unbind_bytes(id);

@@ -117,6 +117,8 @@ impl Link for Canned {
 
     ghost faults = { λ l. l.faults };
 
+    ghost breaks = { λ _. Unit {0} };
+
     fn send(&mut self, bytes: &[u8]) -> Result<(), LinkFailed> {
         match self.keep(bytes) {
             Ok(()) => Ok(()),
@@ -149,7 +151,7 @@ impl DirectoryLink for Canned {
 
     ghost asked = { λ _. None };
 
-    ghost entries = { λ _. None };
+    ghost behind = { λ _. None };
 
     ghost asks = { λ before after m sound went. refl };
 
@@ -253,6 +255,8 @@ impl Link for Repeating {
 
     ghost faults = { λ _. 0 };
 
+    ghost breaks = { λ _. Unit {0} };
+
     fn send(&mut self, _bytes: &[u8]) -> Result<(), LinkFailed> {
         Ok(())
     }
@@ -278,7 +282,7 @@ impl DirectoryLink for Repeating {
 
     ghost asked = { λ _. None };
 
-    ghost entries = { λ _. None };
+    ghost behind = { λ _. None };
 
     ghost asks = { λ before after m sound went. refl };
 

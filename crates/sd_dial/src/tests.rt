@@ -19,7 +19,7 @@ impl Dialer for Lines {
 
     ghost received = { λ _. None };
 
-    ghost entries = { λ _ _. None };
+    ghost behind = { λ _ _. None };
 
     ghost faults = { λ d. d.faults };
 

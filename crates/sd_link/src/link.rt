@@ -1,5 +1,5 @@
 //! What a link does and tells.
-ghost use Rattle.std.specs.Prelude.{◌≡◌, ℕ, ◌<◌, ◌≤◌, List, length, take, IfOk, MatchResult, Some, None};
+ghost use Rattle.std.specs.Prelude.{◌≡◌, ℕ, ◌<◌, ◌≤◌, List, length, take, IfOk, OnErr, MatchResult, Some, None};
 ghost use Rattle.std.specs.declared.option.Option.{Option};
 ghost use Rattle.std.specs.Io.{ReadsAtMost};
 ghost use Rattle.std.specs.Io.KnownBytes.{append_known, prepend_known};
@@ -26,6 +26,8 @@ pub trait Link {
     ghost went: { Self → Option (List ℕ) → Self → Type 0 };
     /// How many calls have failed. A count at the greatest u64 stands still.
     ghost faults: { Self → ℕ };
+    /// What is so of a link whose call has failed.
+    ghost breaks: { Self → Type 0 };
 
     /// Sends all bytes, as one piece.
     fn send(&mut self, bytes: &[u8]) -> Result<(), LinkFailed>
@@ -33,7 +35,8 @@ pub trait Link {
         ensures sent { MatchResult result (λ _. sent self.new ≡ with_piece (sent self.old) bytes.now) (λ _. sent self.new ≡ sent self.old) }
         ensures received { received self.new ≡ received self.old }
         ensures went { MatchResult result (λ _. went self.old (Some bytes.now) self.new) (λ _. went self.old None self.new) }
-        ensures cause { HasCause (faults self.old) (faults self.new) result };
+        ensures cause { HasCause (faults self.old) (faults self.new) result }
+        ensures broken { OnErr result (breaks self.new) };
 
     /// Takes some of the bytes to come, at least one; at the peer's end it fails.
     fn receive(&mut self, buf: &mut [u8]) -> Result<usize, LinkFailed>
@@ -44,5 +47,6 @@ pub trait Link {
         ensures sent { sent self.new ≡ sent self.old }
         ensures received { MatchResult result (λ n. received self.new ≡ append_known (received self.old) (take n buf.new)) (λ _. received self.new ≡ received self.old) }
         ensures went { went self.old None self.new }
-        ensures cause { HasCause (faults self.old) (faults self.new) result };
+        ensures cause { HasCause (faults self.old) (faults self.new) result }
+        ensures broken { OnErr result (breaks self.new) };
 }

@@ -6,6 +6,7 @@ use Rattle.sd_ldap.specs.declared.entry.DirEntry.{DirEntry}
 use Rattle.sd_match.specs.Answering.{answer_to}
 use Rattle.sd_stub.specs.declared.Mode.{Mode}
 use Rattle.sd_stub.specs.declared.Mode.TheVariants as modes
+use Rattle.sd_dial.specs.Entries.{Behind, shortest}
 use Rattle.sd_stub_link.specs.Distinct.{have_own_dns}
 
 -- the entries of the directory, the mode, all bytes that replies have put and how many of them were
@@ -39,9 +40,9 @@ told_where false x = None
 abbrev pub coming_of : Standing → Option (List ℕ)
 coming_of s = told_where (is_up s.mode) (drop s.at s.put)
 
--- the entries are told in mode up, where each has a DN of its own
-abbrev pub entries_of : Standing → Option (List DirEntry)
-entries_of s = told_where (is_up s.mode && have_own_dns s.entries) s.entries
+-- the directory is told in mode up, where each entry has a DN of its own
+abbrev pub behind_of : Standing → Option Behind
+behind_of s = told_where (is_up s.mode && have_own_dns s.entries) (record { entries = s.entries; framing = shortest })
 
 -- counts stand still at the greatest number
 abbrev pub counted : ℕ → ℕ

@@ -15,11 +15,11 @@ use Rattle.sd_ldap.specs.Spelling.{message_bytes}
 use Rattle.sd_ldap.specs.Sound.{IsSound}
 use Rattle.sd_match.specs.Answering.{same_bytes, answer_to}
 use Rattle.sd_dial.specs.Asked.{with_message, IsNoMessage}
-use Rattle.sd_dial.specs.Entries.{HaveOwnDns}
+use Rattle.sd_dial.specs.Entries.{Behind, HaveOwnDns, shortest, answer_behind}
 use Rattle.sd_stub_link.specs.Sounding.{is_sound}
 use Rattle.sd_stub_link.specs.Asking.{read_in, checked, message_of, with_found, messages_of}
 use Rattle.sd_stub_link.specs.Distinct.{is_own_dn, have_own_dns}
-use Rattle.sd_stub_link.specs.Standing.{Standing, is_up, told_where, coming_of, entries_of, with_reply, with_received, Went}
+use Rattle.sd_stub_link.specs.Standing.{Standing, is_up, told_where, coming_of, behind_of, with_reply, with_received, Went}
 use Rattle.sd_stub_link.specs.Sounds.{sound_told, sound_tested}
 use Rattle.sd_stub_link.specs.Whole.{whole_again}
 
@@ -70,7 +70,7 @@ passes before after piece none went =
 pub waits : (before after : Standing) → Went before None after → Some (messages_of after.pieces) ≡ told (messages_of before.pieces)
 waits before after went = ap (λ (pieces : List (List ℕ)). told (messages_of pieces)) went.pieces
 
-pub keeps : (before after : Standing) (piece : Option (List ℕ)) → Went before piece after → entries_of after ≡ entries_of before
+pub keeps : (before after : Standing) (piece : Option (List ℕ)) → Went before piece after → behind_of after ≡ behind_of before
 keeps before after piece went = rw (went.entries, went.mode) refl
 
 -- entries that pass the test have DNs of their own
@@ -89,13 +89,17 @@ tells_where : (a : Bool) (x : List ℕ) → a ≡ true → IsSome (told_where a 
 tells_where true x e = refl
 tells_where false x e = absurd cc
 
-pub tells_coming : (link : Standing) (known : List DirEntry) → entries_of link ≡ Some known → IsSome (coming_of link) × HaveOwnDns known
-tells_coming link known e =
-    let h = both_hold (is_up link.mode) (have_own_dns link.entries) link.entries known e in
-    (tells_where (is_up link.mode) _ h.0, subst HaveOwnDns h.2 (own_dns link.entries h.1))
+-- what stands behind a link
+abbrev standing_behind : Standing → Behind
+standing_behind link = record { entries = link.entries; framing = shortest }
 
-pub answers : (link : Standing) (known : List DirEntry) (piece : List ℕ) → entries_of link ≡ Some known → answer_to link.entries piece ≡ answer_to known piece
-answers link known piece e = ap (λ (entries : List DirEntry). answer_to entries piece) (both_hold (is_up link.mode) (have_own_dns link.entries) link.entries known e).2
+pub tells_coming : (link : Standing) (known : Behind) → behind_of link ≡ Some known → IsSome (coming_of link) × HaveOwnDns known.entries
+tells_coming link known e =
+    let h = both_hold (is_up link.mode) (have_own_dns link.entries) (standing_behind link) known e in
+    (tells_where (is_up link.mode) _ h.0, subst (λ (b : Behind). HaveOwnDns b.entries) h.2 (own_dns link.entries h.1))
+
+pub answers : (link : Standing) (known : Behind) (piece : List ℕ) → behind_of link ≡ Some known → answer_to link.entries piece ≡ answer_behind known piece
+answers link known piece e = ap (λ (b : Behind). answer_behind b piece) (both_hold (is_up link.mode) (have_own_dns link.entries) (standing_behind link) known e).2
 
 -- ---- the bytes to come and those received
 

@@ -7,7 +7,7 @@ ghost use Rattle.sd_link.specs.Told.{with_piece};
 ghost use Rattle.sd_match.specs.Answering.{answer_to};
 ghost use Rattle.sd_stub.specs.declared.Mode.TheVariants as modes;
 ghost use Rattle.sd_stub_link.specs.Asking.{messages_of};
-ghost use Rattle.sd_stub_link.specs.Standing.{Standing, is_up, is_listed, counted, coming_of, entries_of, refused, refused_starving, with_reply, with_received, IsSendRefused, IsReceiveRefused, Went};
+ghost use Rattle.sd_stub_link.specs.Standing.{Standing, is_up, is_listed, counted, coming_of, behind_of, refused, refused_starving, with_reply, with_received, IsSendRefused, IsReceiveRefused, Went};
 ghost use Rattle.sd_stub_link.specs.Telling as telling;
 
 use sd_base::{Blobs, Bytes, Items, Memory, Numbers};
@@ -250,7 +250,7 @@ impl<'a> Link for StubLink<'a> {
 impl<'a> DirectoryLink for StubLink<'a> {
     ghost asked = { λ l. Some (messages_of l.pieces) };
 
-    ghost entries = { λ l. entries_of l };
+    ghost behind = { λ l. behind_of l };
 
     ghost asks = { telling.asks };
 

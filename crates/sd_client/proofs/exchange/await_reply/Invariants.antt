@@ -12,7 +12,7 @@ invariant-loop-found g l = record {
   limited : length l.buffer ≤ 67108864;
   sent : g.L.Link.sent l.link ≡ g.L.Link.sent l.fn.link;
   asked : g.L.DirectoryLink.asked l.link ≡ g.L.DirectoryLink.asked l.fn.link;
-  entries : g.L.DirectoryLink.entries l.link ≡ g.L.DirectoryLink.entries l.fn.link;
+  behind : g.L.DirectoryLink.behind l.link ≡ g.L.DirectoryLink.behind l.fn.link;
   later : g.L.Link.faults l.fn.link ≤ g.L.Link.faults l.link;
 }
 
