@@ -101,7 +101,7 @@ fn receive_behind<L: DirectoryLink>(link: &mut L, bytes: &mut [u8], filled: usiz
     ensures asked { L.asked link.new ≡ L.asked link.old }
     ensures behind { L.behind link.new ≡ L.behind link.old }
     ensures later { L.faults link.old ≤ L.faults link.new }
-    ensures failed { IfNone result (Rose (L.faults link.old) (L.faults link.new) × L.breaks link.new) }
+    ensures failed { IfNone result (Rose (L.faults link.old) (L.faults link.new) × L.ends link.new) }
 {
     let (_, room) = bytes.split_at_mut(filled);
     match link.receive(room) {
@@ -116,7 +116,7 @@ impl Buffer {
         requires { length self.old ≤ 67108864 }
         ensures came { Comes (L.received link.old) (L.received link.new) (L.coming link.old) (L.coming link.new) self.old self.new }
         ensures some { result ≡ Ok Received.Bytes → length self.old < length self.new }
-        ensures nothing { result ≡ Ok Received.Nothing → (self.new ≡ self.old) × Rose (L.faults link.old) (L.faults link.new) × L.breaks link.new }
+        ensures nothing { result ≡ Ok Received.Nothing → (self.new ≡ self.old) × Rose (L.faults link.old) (L.faults link.new) × L.ends link.new }
         ensures memory { OnErr result (self.new ≡ self.old) }
         ensures short { length self.new ≤ 67108865 }
         ensures limited { length self.old < 67108864 → length self.new ≤ 67108864 }

@@ -86,10 +86,10 @@ impl<L: DirectoryLink> Client<L> {
         ensures used { (self.new.next ≡ self.old.next) ⊎ (self.new.next ≡ self.old.next + 1) }
         // A request that was not sent: nothing came of it but the link's failure or want of memory.
         ensures unsent { self.new.next ≡ self.old.next → IsUnsent (L.sent self.old.link) (L.sent self.new.link) (L.asked self.old.link) (L.asked self.new.link) (L.received self.old.link) (L.received self.new.link) (L.coming self.old.link) (L.coming self.new.link) self.old.received self.new.received }
-        ensures no_reply { self.old.failed ≡ None → self.new.next ≡ self.old.next → IsUnsearched result (Rose (L.faults self.old.link) (L.faults self.new.link) × L.breaks self.new.link) }
+        ensures no_reply { self.old.failed ≡ None → self.new.next ≡ self.old.next → IsUnsearched result (Rose (L.faults self.old.link) (L.faults self.new.link) × L.refuses self.new.link) }
         // A request that was sent: the bytes received decide.
         ensures sent { self.new.next ≡ self.old.next + 1 → IsSent (search_message self.old.next (search_value request.now)) (L.answer self.old.link (message_bytes (search_message self.old.next (search_value request.now)))) (L.sent self.old.link) (L.sent self.new.link) (L.asked self.old.link) (L.asked self.new.link) (L.received self.old.link) (L.received self.new.link) (L.coming self.old.link) (L.coming self.new.link) self.old.received self.new.received }
-        ensures reply { self.new.next ≡ self.old.next + 1 → IsSearched result (decided Request.Search self.old.next self.old.at self.new.received) self.new.at (Rose (L.faults self.old.link) (L.faults self.new.link) × L.breaks self.new.link) }
+        ensures reply { self.new.next ≡ self.old.next + 1 → IsSearched result (decided Request.Search self.old.next self.old.at self.new.received) self.new.at (Rose (L.faults self.old.link) (L.faults self.new.link) × L.ends self.new.link) }
         ensures fails { self.old.failed ≡ None → self.new.failed ≡ failure_by_search result }
         ensures placed { self.old.failed ≡ None → IsPlacedBySearch result self.old.at self.new.at }
         ensures within { self.new.at ≤ length self.new.received }
@@ -126,10 +126,10 @@ impl<L: DirectoryLink> Client<L> {
         ensures used { (self.new.next ≡ self.old.next) ⊎ (self.new.next ≡ self.old.next + 1) }
         // A request that was not sent: nothing came of it but the link's failure or want of memory.
         ensures unsent { self.new.next ≡ self.old.next → IsUnsent (L.sent self.old.link) (L.sent self.new.link) (L.asked self.old.link) (L.asked self.new.link) (L.received self.old.link) (L.received self.new.link) (L.coming self.old.link) (L.coming self.new.link) self.old.received self.new.received }
-        ensures no_reply { self.old.failed ≡ None → self.new.next ≡ self.old.next → IsUnbound result (Rose (L.faults self.old.link) (L.faults self.new.link) × L.breaks self.new.link) }
+        ensures no_reply { self.old.failed ≡ None → self.new.next ≡ self.old.next → IsUnbound result (Rose (L.faults self.old.link) (L.faults self.new.link) × L.refuses self.new.link) }
         // A request that was sent: the bytes received decide.
         ensures sent { self.new.next ≡ self.old.next + 1 → IsSent (bind_message self.old.next dn.now password.now) (L.answer self.old.link (message_bytes (bind_message self.old.next dn.now password.now))) (L.sent self.old.link) (L.sent self.new.link) (L.asked self.old.link) (L.asked self.new.link) (L.received self.old.link) (L.received self.new.link) (L.coming self.old.link) (L.coming self.new.link) self.old.received self.new.received }
-        ensures reply { self.new.next ≡ self.old.next + 1 → IsBound result (decided Request.Bind self.old.next self.old.at self.new.received) self.new.at (Rose (L.faults self.old.link) (L.faults self.new.link) × L.breaks self.new.link) }
+        ensures reply { self.new.next ≡ self.old.next + 1 → IsBound result (decided Request.Bind self.old.next self.old.at self.new.received) self.new.at (Rose (L.faults self.old.link) (L.faults self.new.link) × L.ends self.new.link) }
         ensures fails { self.old.failed ≡ None → self.new.failed ≡ failure_by_bind result }
         ensures placed { self.old.failed ≡ None → IsPlacedByBind result self.old.at self.new.at }
         ensures within { self.new.at ≤ length self.new.received }

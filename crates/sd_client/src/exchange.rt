@@ -50,7 +50,7 @@ fn await_reply<L: DirectoryLink>(
     requires within { at.old ≤ length buffer.old }
     requires limited { length buffer.old ≤ 67108864 }
     ensures came { Comes (L.received link.old) (L.received link.new) (L.coming link.old) (L.coming link.new) buffer.old buffer.new }
-    ensures reply { IsReply result (decided request id at.old buffer.new) at.new (Rose (L.faults link.old) (L.faults link.new) × L.breaks link.new) }
+    ensures reply { IsReply result (decided request id at.old buffer.new) at.new (Rose (L.faults link.old) (L.faults link.new) × L.ends link.new) }
     ensures within { at.new ≤ length buffer.new }
     ensures short { length buffer.new ≤ 67108865 }
     ensures limited { failure_of result ≡ None → length buffer.new ≤ 67108864 }
@@ -85,7 +85,7 @@ fn ask<L: DirectoryLink>(alloc: Global, link: &mut L, message: &Message) -> Resu
     ensures unsent { (result ≡ Ok true → ⊥) → (L.sent link.new ≡ L.sent link.old) × (L.asked link.new ≡ L.asked link.old) × (L.coming link.new ≡ L.coming link.old) }
     ensures received { L.received link.new ≡ L.received link.old }
     ensures behind { L.behind link.new ≡ L.behind link.old }
-    ensures failed { result ≡ Ok false → Rose (L.faults link.old) (L.faults link.new) × L.breaks link.new }
+    ensures failed { result ≡ Ok false → Rose (L.faults link.old) (L.faults link.new) × L.refuses link.new }
     ensures later { L.faults link.old ≤ L.faults link.new }
 {
     let piece = write_message(alloc, message)?;
@@ -107,7 +107,7 @@ fn ask_by<L: DirectoryLink>(
     ensures unsent { (result ≡ Ok true → ⊥) → (L.sent link.new ≡ L.sent link.old) × (L.asked link.new ≡ L.asked link.old) × (L.coming link.new ≡ L.coming link.old) }
     ensures received { L.received link.new ≡ L.received link.old }
     ensures behind { L.behind link.new ≡ L.behind link.old }
-    ensures failed { result ≡ Ok false → Rose (L.faults link.old) (L.faults link.new) × L.breaks link.new }
+    ensures failed { result ≡ Ok false → Rose (L.faults link.old) (L.faults link.new) × L.refuses link.new }
     ensures later { L.faults link.old ≤ L.faults link.new }
 {
     let message = Message { id, operation };
@@ -126,7 +126,7 @@ fn settle<L: DirectoryLink>(
     requires within { state.old.at ≤ length state.old.buffer }
     requires limited { length state.old.buffer ≤ 67108864 }
     ensures came { Comes (L.received link.old) (L.received link.new) (L.coming link.old) (L.coming link.new) state.old.buffer state.new.buffer }
-    ensures reply { IsReply result (decided request id state.old.at state.new.buffer) state.new.at (Rose (L.faults link.old) (L.faults link.new) × L.breaks link.new) }
+    ensures reply { IsReply result (decided request id state.old.at state.new.buffer) state.new.at (Rose (L.faults link.old) (L.faults link.new) × L.ends link.new) }
     ensures fails { state.new.failed ≡ failure_of result }
     ensures placed { IsPlaced result state.old.at state.new.at }
     ensures next { state.new.next ≡ state.old.next }
@@ -166,9 +166,9 @@ pub fn exchange<L: DirectoryLink>(
     requires next { state.old.next < 2147483647 }
     ensures used { (state.new.next ≡ state.old.next) ⊎ (state.new.next ≡ state.old.next + 1) }
     ensures unsent { state.new.next ≡ state.old.next → IsUnsent (L.sent link.old) (L.sent link.new) (L.asked link.old) (L.asked link.new) (L.received link.old) (L.received link.new) (L.coming link.old) (L.coming link.new) state.old.buffer state.new.buffer }
-    ensures no_reply { state.new.next ≡ state.old.next → IsNoReply result (Rose (L.faults link.old) (L.faults link.new) × L.breaks link.new) }
+    ensures no_reply { state.new.next ≡ state.old.next → IsNoReply result (Rose (L.faults link.old) (L.faults link.new) × L.refuses link.new) }
     ensures sent { state.new.next ≡ state.old.next + 1 → IsSent (request_message state.old.next (operation_value operation)) (L.answer link.old (message_bytes (request_message state.old.next (operation_value operation)))) (L.sent link.old) (L.sent link.new) (L.asked link.old) (L.asked link.new) (L.received link.old) (L.received link.new) (L.coming link.old) (L.coming link.new) state.old.buffer state.new.buffer }
-    ensures reply { state.new.next ≡ state.old.next + 1 → IsReply result (decided request state.old.next state.old.at state.new.buffer) state.new.at (Rose (L.faults link.old) (L.faults link.new) × L.breaks link.new) }
+    ensures reply { state.new.next ≡ state.old.next + 1 → IsReply result (decided request state.old.next state.old.at state.new.buffer) state.new.at (Rose (L.faults link.old) (L.faults link.new) × L.ends link.new) }
     ensures fails { state.new.failed ≡ failure_of result }
     ensures placed { IsPlaced result state.old.at state.new.at }
     ensures within { state.new.at ≤ length state.new.buffer }

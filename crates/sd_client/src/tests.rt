@@ -117,7 +117,9 @@ impl Link for Canned {
 
     ghost faults = { λ l. l.faults };
 
-    ghost breaks = { λ _. Unit {0} };
+    ghost refuses = { λ _. Unit {0} };
+
+    ghost ends = { λ _. Unit {0} };
 
     fn send(&mut self, bytes: &[u8]) -> Result<(), LinkFailed> {
         match self.keep(bytes) {
@@ -255,7 +257,9 @@ impl Link for Repeating {
 
     ghost faults = { λ _. 0 };
 
-    ghost breaks = { λ _. Unit {0} };
+    ghost refuses = { λ _. Unit {0} };
+
+    ghost ends = { λ _. Unit {0} };
 
     fn send(&mut self, _bytes: &[u8]) -> Result<(), LinkFailed> {
         Ok(())

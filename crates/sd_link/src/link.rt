@@ -26,8 +26,10 @@ pub trait Link {
     ghost went: { Self → Option (List ℕ) → Self → Type 0 };
     /// How many calls have failed. A count at the greatest u64 stands still.
     ghost faults: { Self → ℕ };
-    /// What is so of a link whose call has failed.
-    ghost breaks: { Self → Type 0 };
+    /// What is so of a link whose send has failed.
+    ghost refuses: { Self → Type 0 };
+    /// What is so of a link whose receive has failed.
+    ghost ends: { Self → Type 0 };
 
     /// Sends all bytes, as one piece.
     fn send(&mut self, bytes: &[u8]) -> Result<(), LinkFailed>
@@ -36,7 +38,7 @@ pub trait Link {
         ensures received { received self.new ≡ received self.old }
         ensures went { MatchResult result (λ _. went self.old (Some bytes.now) self.new) (λ _. went self.old None self.new) }
         ensures cause { HasCause (faults self.old) (faults self.new) result }
-        ensures broken { OnErr result (breaks self.new) };
+        ensures refused { OnErr result (refuses self.new) };
 
     /// Takes some of the bytes to come, at least one; at the peer's end it fails.
     fn receive(&mut self, buf: &mut [u8]) -> Result<usize, LinkFailed>
@@ -48,5 +50,5 @@ pub trait Link {
         ensures received { MatchResult result (λ n. received self.new ≡ append_known (received self.old) (take n buf.new)) (λ _. received self.new ≡ received self.old) }
         ensures went { went self.old None self.new }
         ensures cause { HasCause (faults self.old) (faults self.new) result }
-        ensures broken { OnErr result (breaks self.new) };
+        ensures ended { OnErr result (ends self.new) };
 }

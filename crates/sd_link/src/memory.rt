@@ -96,7 +96,9 @@ impl Link for MemoryLink {
 
     ghost faults = { λ l. l.faults };
 
-    ghost breaks = { λ _. Unit {0} };
+    ghost refuses = { λ _. Unit {0} };
+
+    ghost ends = { λ _. Unit {0} };
 
     fn send(&mut self, bytes: &[u8]) -> Result<(), LinkFailed> {
         self.calls = self.calls.saturating_add(1);
