@@ -94,6 +94,7 @@ impl<L: DirectoryLink> Client<L> {
         ensures placed { self.old.failed ≡ None → IsPlacedBySearch result self.old.at self.new.at }
         ensures within { self.new.at ≤ length self.new.received }
         ensures short { length self.new.received ≤ 67108865 }
+        ensures counted { self.new.next ≤ 2147483647 }
         ensures behind { L.behind self.new.link ≡ L.behind self.old.link }
         ensures later { L.faults self.old.link ≤ L.faults self.new.link }
     {
@@ -134,6 +135,7 @@ impl<L: DirectoryLink> Client<L> {
         ensures placed { self.old.failed ≡ None → IsPlacedByBind result self.old.at self.new.at }
         ensures within { self.new.at ≤ length self.new.received }
         ensures short { length self.new.received ≤ 67108865 }
+        ensures counted { self.new.next ≤ 2147483647 }
         ensures behind { L.behind self.new.link ≡ L.behind self.old.link }
         ensures later { L.faults self.old.link ≤ L.faults self.new.link }
     {

@@ -23,7 +23,7 @@ returns-in-Ended-clause-reply g c =
 pub returns-in-Failed-clause-reply : goal.returns-in-Failed-clause-reply
 returns-in-Failed-clause-reply g c =
     failed_by_read c.args.request c.args.id c.args.at.now c.loop-found.at c.read_on.new.at c.in-Failed.why c.loop-found.found c.read_on.new.found c.loop-found.buffer c.bytes.result.now c.in_ok-read_on.field-0
-    (Rose (g.L.Link.faults c.args.link.now) (g.L.Link.faults c.loop-found.link))
+    (Rose (g.L.Link.faults c.args.link.now) (g.L.Link.faults c.loop-found.link) × g.L.Link.ends c.loop-found.link)
     c.bytes.ensures c.in-Failed.is c.loop-found.invariant.limited c.loop-found.invariant.same c.in_ok-read_on.ensures.read
 
 pub returns-in_err-receive-clause-came : goal.returns-in_err-receive-clause-came
@@ -35,7 +35,7 @@ returns-in-Nothing-clause-reply g c =
     undecided_by_read c.args.request c.args.id c.args.at.now c.loop-found.at c.read_on.new.at c.loop-found.found c.read_on.new.found c.loop-found.buffer c.bytes.result.now c.in_ok-read_on.field-0
     c.bytes.ensures c.in-Waits.is c.loop-found.invariant.same c.in_ok-read_on.ensures.read (c.in_ok-read_on.ensures.waits (ap Ok c.in-Waits.is)) in
     let gone = c.in_ok-receive.ensures.nothing (ap Ok c.in-Nothing.is) in (
-      rose_earlier (g.L.Link.faults c.args.link.now) (g.L.Link.faults c.loop-found.link) (g.L.Link.faults c.receive.new.link) c.loop-found.invariant.later gone.1,
+      (rose_earlier (g.L.Link.faults c.args.link.now) (g.L.Link.faults c.loop-found.link) (g.L.Link.faults c.receive.new.link) c.loop-found.invariant.later gone.1, gone.2),
       ap (λ (bytes : List ℕ). decided c.args.request c.args.id c.args.at.now bytes) gone.0 ∙ decided_within c.args.request c.args.id c.args.at.now c.loop-found.buffer c.loop-found.invariant.limited ∙ none,
     )
 

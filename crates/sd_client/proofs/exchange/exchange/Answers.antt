@@ -14,4 +14,4 @@ returns-then-sent-clause-sent g c = λ e. record {
 }
 
 pub returns-then-sent-clause-reply : goal.returns-then-sent-clause-reply
-returns-then-sent-clause-reply g c = λ e. reply_earlier c.settle.result _ _ _ _ (λ rose. rose_earlier _ _ _ c.in_ok-sent.ensures.later rose) c.settle.ensures.reply
+returns-then-sent-clause-reply g c = λ e. reply_earlier c.settle.result _ _ _ _ (λ rose. (rose_earlier _ _ _ c.in_ok-sent.ensures.later rose.0, rose.1)) c.settle.ensures.reply
