@@ -3,7 +3,7 @@ use Rattle.std.specs.Prelude.{◌≡◌, ℕ, List, reverse}
 use Rattle.sd_rules.specs.declared.events.Row.{Row}
 use Rattle.sd_rules.specs.declared.replies.Entry.{Entry}
 use Rattle.sd_rules.specs.declared.settings.Settings.{Settings}
-use Rattle.sd_rules.specs.KeptRows.{opened, reopened}
+use Rattle.sd_rules.specs.KeptRows.{opened, reopened, rows_of}
 use Rattle.sd_rules.specs.Steps.{Daemon}
 use Rattle.sd_keeping.specs.declared.opening.OpenJournal.{OpenJournal}
 
@@ -20,3 +20,7 @@ Opens rows o = (s : Settings) → daemon_of s o ≡ opened s rows
 -- a journal, with its next number and its least moment, becomes this one over a restart
 abbrev pub Reopens : ℕ → ℕ → List Entry → OpenJournal → Type 0
 Reopens next floor entries o = (s : Settings) → daemon_of s o ≡ reopened (daemon s next floor entries)
+
+-- of a journal, with its next number and its least moment, these rows are kept
+abbrev pub Keeps : ℕ → ℕ → List Entry → List Row → Type 0
+Keeps next floor entries rows = (s : Settings) → rows ≡ rows_of (daemon s next floor entries)

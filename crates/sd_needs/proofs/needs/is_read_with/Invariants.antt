@@ -1,0 +1,9 @@
+use Rattle.std.proofs.Common.{◌≡◌, reverse, take}
+use Rattle.sd_rules.specs.Needed as needed
+use Rattle.sd_needs.proofs.needs.is_read_with.Given as goal
+
+-- what the entries before the place say is what all say
+abbrev pub invariant-loop-place : goal.invariant-loop-place
+invariant-loop-place l =
+    needed.is_read_with (reverse l.all) l.entry (reverse (take l.place l.all))
+    ≡ needed.is_read_with (reverse l.all) l.entry (reverse l.all)
