@@ -1,2 +1,10 @@
+mod Names
 mod Places
 mod Replies
+mod Sizes
+mod Hearing
+mod Passing
+mod Standing
+mod LinkEnds
+mod Rounds
+mod Told

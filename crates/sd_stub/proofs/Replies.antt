@@ -8,7 +8,6 @@ use Rattle.sd_dn.specs.Texts.{spelled, both_meet}
 use Rattle.sd_match.specs.Matching.{has_unsupported}
 use Rattle.std.proofs.Common.{◌≡◌, ℕ, ◌≤◌, Bool, true, false, List, [], ◌∷◌, ◌++◌, length, take, map, refl, sym, ap, ◌∙◌, append_assoc, append-nil, arith, take_all}
 use Rattle.std.specs.Prelude.{◌&&◌, nat_lt, if◌then◌else◌, flat_map}
-use Rattle.std.proofs.lemmas.Bool.{cases_Bool}
 use Rattle.sd_ldap.specs.declared.entry.DirEntry.{DirEntry}
 use Rattle.sd_ldap.specs.Values.{SearchValue, MessageValue, entry, done}
 use Rattle.sd_ldap.specs.Spelling.{message_bytes}

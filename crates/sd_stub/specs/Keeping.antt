@@ -1,7 +1,6 @@
 -- Which of the entries handed in a directory keeps.
-use Rattle.std.specs.Prelude.{◌≡◌, ℕ, if◌then◌else◌, List, [], ◌∷◌, fold, map, Option}
-use Rattle.sd_dn.specs.declared.Pair.{Pair}
-use Rattle.sd_dn.specs.Texts.{spelled, same_dn_text}
+use Rattle.std.specs.Prelude.{if◌then◌else◌, List, [], ◌∷◌, fold}
+use Rattle.sd_dn.specs.Texts.{same_dn_text}
 use Rattle.sd_ldap.specs.declared.entry.DirEntry.{DirEntry}
 
 -- an entry stands in the place of the one that has its DN, else behind all; a text that is no DN equals none

@@ -1,3 +1,7 @@
 pub mod Keeping
+pub mod Naming
 pub mod Faults
 pub mod Replying
+pub mod Saying
+pub mod Serving
+pub mod Passing

@@ -2,7 +2,7 @@
 use Rattle.std.specs.Prelude.{ℕ, ◌-◌, Bool, List, [], ◌∷◌, if◌then◌else◌, flat_map}
 use Rattle.std.specs.List.{list_any}
 use Rattle.sd_ldap.specs.declared.entry.DirEntry.{DirEntry}
-use Rattle.sd_ldap.specs.Values.{SearchValue, MessageValue, entry, done, bind_response}
+use Rattle.sd_ldap.specs.Values.{SearchValue, entry, done, bind_response}
 use Rattle.sd_ldap.specs.Spelling.{message_bytes}
 use Rattle.sd_match.specs.Answering.{told, reply, sent, is_at_or_under, found, found_replies, search_replies, bind_code}
 

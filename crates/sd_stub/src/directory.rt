@@ -3,12 +3,13 @@ ghost use Rattle.std.specs.Prelude.{◌≡◌, ◌<◌, ◌≤◌, ℕ, Bool, Li
 ghost use Rattle.sd_ldap.specs.declared.entry.DirEntry.{DirEntry};
 ghost use Rattle.sd_ldap.specs.Values.{message_value};
 ghost use Rattle.sd_ldap.specs.MessageReading.{whole};
-ghost use Rattle.sd_match.specs.Answering.{answer_to, answer_decoded};
-ghost use Rattle.sd_stub.specs.Keeping.{put, kept};
+ghost use Rattle.sd_match.specs.Answering.{answer_to, answer_decoded, reply_bytes};
+ghost use Rattle.sd_stub.specs.Keeping.{kept};
 ghost use Rattle.sd_stub.specs.Faults.{fault_of, fault_in, Tells};
 
 use crate::answering::replies;
 use crate::fault::StubFault;
+use crate::keeping::{by_name, in_order};
 use crate::placed::Placed;
 use sd_base::{Items, Memory};
 use sd_ldap::{Decoded, DirEntry, Message, decode};
@@ -33,17 +34,13 @@ impl Model for Directory {
 
 impl Directory {
     /// A directory of these entries: of entries whose DNs are equal the last, in the place of the first.
-    #[tactic(auto, using(crate::proofs::Places::kept_more))]
     pub fn new(alloc: Global, entries: Vec<DirEntry>) -> Result<Directory, Memory>
         ensures { IfOk result (λ directory. directory ≡ kept entries.items) }
     {
-        let mut kept = Items::new(alloc);
-        for entry in entries {
-            put(&mut kept, Placed::new(alloc, entry)?)?;
-        }
+        let named = by_name(alloc, entries)?;
         Ok(Directory {
             alloc,
-            entries: kept,
+            entries: in_order(alloc, named)?,
         })
     }
 
@@ -76,32 +73,17 @@ impl Directory {
         if used != request.len() as u64 {
             return Err(StubFault::Bad(used));
         }
-        Ok(replies(self.alloc, self.entries.items(), message)?)
+        Ok(self.replies(message)?)
     }
-}
 
-/// Puts an entry in the place of the one that has its DN, else behind all.
-fn put(entries: &mut Items<Placed>, placed: Placed) -> Result<(), Memory>
-    ensures { OnOk result (entries.new ≡ put entries.old placed) }
-{
-    match place_of(entries.items(), &placed) {
-        Some(place) => {
-            entries.set(place, placed);
-            Ok(())
-        }
-        None => entries.push(placed),
+    /// The bytes of the replies to a message.
+    pub(crate) fn replies(&self, message: &Message) -> Result<Vec<u8>, Memory>
+        ensures { IfOk result (λ v. v.items ≡ reply_bytes self.now (message_value message.now)) }
+    {
+        replies(self.alloc, self.entries.items(), message)
     }
-}
 
-/// The place of the entry that has the DN of another.
-#[tactic(auto, using(crate::proofs::Places::put_found, crate::proofs::Places::put_last))]
-fn place_of(entries: &[Placed], placed: &Placed) -> Option<usize>
-    ensures { MatchOption result (entries.now ++ placed.now ∷ [] ≡ put entries.now placed.now) (λ place. (place < length entries.now) × (slice_set entries.now place placed.now ≡ put entries.now placed.now)) }
-{
-    for place in 0..entries.len() {
-        if entries[place].has_name_of(placed) {
-            return Some(place);
-        }
+    pub(crate) fn allocator(&self) -> Global {
+        self.alloc
     }
-    None
 }

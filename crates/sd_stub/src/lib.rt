@@ -4,13 +4,21 @@
 mod answering;
 mod binding;
 mod directory;
+mod ending;
 mod fault;
+mod keeping;
+mod naming;
 mod placed;
 mod searching;
 mod sending;
+mod serving;
+mod stepping;
+mod taking;
 
 pub use directory::Directory;
+pub use ending::LinkEnd;
 pub use fault::StubFault;
+pub use serving::serve_link;
 
 /// How a server of a directory behaves.
 #[derive(Clone, Copy, Debug, PartialEq, Eq)]
@@ -28,5 +36,7 @@ pub enum Mode {
     Code(u32),
 }
 
+#[cfg(test)]
+mod serving_tests;
 #[cfg(test)]
 mod tests;

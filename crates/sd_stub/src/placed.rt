@@ -1,9 +1,11 @@
 //! An entry beside the DN that its text spells.
 ghost use Rattle.std.specs.Prelude.{◌≡◌, ℕ, IfOk, Option};
 ghost use Rattle.sd_dn.specs.Comparing.{same_dn, ends_with};
-ghost use Rattle.sd_dn.specs.Texts.{spelled, both_meet, same_dn_text};
+ghost use Rattle.sd_dn.specs.Texts.{spelled, both_meet};
 ghost use Rattle.sd_match.specs.Answering.{is_child, in_scope};
+ghost use Rattle.sd_stub.specs.Naming.{IsNameOf};
 
+use crate::naming::{Name, name_of};
 use sd_base::Memory;
 use sd_dn::{Dn, dn_equal, is_at_or_under, spelled};
 use sd_ldap::DirEntry;
@@ -43,18 +45,18 @@ impl Placed {
         &self.entry
     }
 
+    /// Its name among others; the number is its own where its text spells no DN.
+    pub fn name(&self, alloc: Global, number: u64) -> Result<Name, Memory>
+        ensures { IfOk result (λ name. IsNameOf name number (spelled self.now.dn)) }
+    {
+        name_of(alloc, &self.dn, number)
+    }
+
     /// Whether it is the entry of this DN.
     pub fn is_named(&self, name: &Option<Dn>) -> bool
         ensures { result ≡ both_meet same_dn (spelled self.now.dn) name.now }
     {
         same(&self.dn, name)
-    }
-
-    /// Whether another entry has its DN.
-    pub fn has_name_of(&self, other: &Placed) -> bool
-        ensures { result ≡ same_dn_text self.now.dn other.now.dn }
-    {
-        same(&self.dn, &other.dn)
     }
 
     pub fn is_at_or_under(&self, base: &Option<Dn>) -> bool

@@ -5,7 +5,7 @@ use std::alloc::Global;
 use std::test::Fail;
 
 /// The bytes that pairs of hexadecimal digits spell.
-fn bytes_of(alloc: Global, hex: &str) -> Result<Vec<u8>, std::alloc::AllocError> {
+pub fn bytes_of(alloc: Global, hex: &str) -> Result<Vec<u8>, std::alloc::AllocError> {
     let mut bytes = Vec::new(alloc);
     let digits = hex.as_bytes();
     for place in 0..digits.len() / 2 {

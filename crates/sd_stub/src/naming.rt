@@ -1,0 +1,79 @@
+//! By what an entry is found among others.
+ghost use Rattle.std.specs.Prelude.{◌≡◌, ℕ, List, map, IfOk};
+ghost use Rattle.sd_dn.specs.declared.Pair.{Pair};
+ghost use Rattle.sd_stub.specs.Naming.{lower, lower_pair, lower_dn, parts_of, IsNameOf};
+
+use sd_base::{Memory, Text};
+use sd_dn::{Dn, Pair};
+use std::alloc::Global;
+
+/// A type and its value, in lower case.
+#[derive(Drop, Debug, PartialEq, Eq, Hash)]
+pub struct Part {
+    pub name: Text,
+    pub value: Text,
+}
+
+/// A relative distinguished name, in lower case.
+#[derive(Drop, Debug, PartialEq, Eq, Hash)]
+pub struct Level {
+    pub parts: Vec<Part>,
+}
+
+/// The name of an entry: two entries have equal names where their texts spell equal DNs.
+#[derive(Drop, Debug, PartialEq, Eq, Hash)]
+pub enum Name {
+    /// Its DN, in lower case.
+    Known(Vec<Level>),
+    /// A number of its own, where its text spells no DN.
+    Unknown(u64),
+}
+
+fn lower(alloc: Global, text: &Text) -> Result<Text, Memory>
+    ensures { IfOk result (λ made. made ≡ lower text.now) }
+{
+    let mut bytes = Vec::new(alloc);
+    for byte in text.bytes() {
+        bytes.push(byte.to_ascii_lowercase())?;
+    }
+    Ok(Text::from_bytes(alloc, &bytes)?)
+}
+
+fn part_of(alloc: Global, pair: &Pair) -> Result<Part, Memory>
+    ensures { IfOk result (λ part. part ≡ lower_pair pair.now) }
+{
+    Ok(Part {
+        name: lower(alloc, &pair.name)?,
+        value: lower(alloc, &pair.value)?,
+    })
+}
+
+fn level_of(alloc: Global, rdn: &[Pair]) -> Result<Level, Memory>
+    ensures { IfOk result (λ level. level.parts.items ≡ map lower_pair rdn.now) }
+{
+    let mut parts = Vec::new(alloc);
+    for pair in rdn {
+        parts.push(part_of(alloc, pair)?)?;
+    }
+    Ok(Level { parts })
+}
+
+/// The name of a DN, or a name of a number where there is none.
+pub fn name_of(alloc: Global, dn: &Option<Dn>, number: u64) -> Result<Name, Memory>
+    ensures { IfOk result (λ name. IsNameOf name number dn.now) }
+{
+    match dn {
+        Some(dn) => Ok(Name::Known(levels_of(alloc, dn)?)),
+        None => Ok(Name::Unknown(number)),
+    }
+}
+
+fn levels_of(alloc: Global, dn: &Dn) -> Result<Vec<Level>, Memory>
+    ensures { IfOk result (λ levels. parts_of levels.items ≡ lower_dn dn.now) }
+{
+    let mut levels = Vec::new(alloc);
+    for rdn in dn.items() {
+        levels.push(level_of(alloc, rdn.items())?)?;
+    }
+    Ok(levels)
+}
