@@ -1,7 +1,11 @@
 pub mod Sounding
 pub mod Asking
 pub mod Distinct
+pub mod Modes
+pub mod Framing
 pub mod Standing
 pub mod Sounds
 pub mod Whole
 pub mod Telling
+pub mod Past
+pub mod Dialing

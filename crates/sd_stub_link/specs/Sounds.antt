@@ -1,10 +1,10 @@
 -- The test of messages says what the definition of sound messages says.
-use Rattle.std.proofs.Common.{◌≡◌, ◌≢◌, ℕ, ◌%◌, ◌<◌, ◌≤◌, Bool, true, false, not, ◌&&◌, eqb, arith, refl, sym, ◌∙◌, ap}
+use Rattle.std.proofs.Common.{◌≡◌, ◌≢◌, ℕ, ◌%◌, true, not, eqb, refl}
 use Rattle.std.proofs.lemmas.Bool.{leb-true, le-leb, ltb-true, lt-ltb, and_from, and_parts, not-true, not_from_false, ne_eqb, eqb-false}
 use Rattle.sd_ldap.specs.Filters.{FilterValue, FilterValues, both, either, negated, equal, substrings, at_least, at_most, present, unsupported, no_filters, with_filter}
 use Rattle.sd_ldap.specs.Values.{SearchValue, OperationValue, MessageValue, bind_request, bind_response, unbind, search, entry, done, reference, other}
 use Rattle.sd_ldap.specs.Sound.{levels_of, HasParts, AllHaveParts, IsSoundSearch, IsOtherTag, IsSoundOperation, IsSound}
-use Rattle.sd_stub_link.specs.Sounding.{has_parts, all_have_parts, is_sound_filter, is_sound_search, is_other_tag, is_sound_operation, is_sound}
+use Rattle.sd_stub_link.specs.Sounding.{has_parts, all_have_parts, is_sound_search, is_other_tag, is_sound_operation, is_sound}
 
 mutual
   parts_told : (f : FilterValue) → has_parts f ≡ true → HasParts f

@@ -1,56 +1,71 @@
 -- What contracts see of a link to a directory in memory, and what its calls make of it.
-use Rattle.std.specs.Prelude.{◌≡◌, ℕ, ◌+◌, ◌-◌, ◌^◌, ◌<◌, min, Bool, true, false, ◌&&◌, ◌==◌, List, [], ◌∷◌, ◌++◌, length, take, drop, Some, None, ◌⊎◌}
+use Rattle.std.specs.Prelude.{◌≡◌, ℕ, ◌+◌, ◌-◌, ◌^◌, ◌<◌, min, Bool, true, false, ◌==◌, if◌then◌else◌, List, [], ◌∷◌, ◌++◌, length, take, drop, Some, None, ◌⊎◌}
 use Rattle.std.specs.List.{list_any}
 use Rattle.std.specs.declared.option.Option.{Option}
 use Rattle.sd_ldap.specs.declared.entry.DirEntry.{DirEntry}
-use Rattle.sd_match.specs.Answering.{answer_to}
 use Rattle.sd_stub.specs.declared.Mode.{Mode}
-use Rattle.sd_stub.specs.declared.Mode.TheVariants as modes
-use Rattle.sd_dial.specs.Entries.{Behind, shortest}
+use Rattle.sd_dial.specs.Entries.{Framing, Behind}
 use Rattle.sd_stub_link.specs.Distinct.{have_own_dns}
+use Rattle.sd_stub_link.specs.Modes.{answer_by, framing_of, has_ended}
 
 -- the entries of the directory, the mode, all bytes that replies have put and how many of them were
--- received, the pieces sent, the number of calls and those that are to fail, the number of faults, and
--- whether a call found no memory
+-- received, the pieces sent, the number of calls with the `before` that were counted before its making,
+-- those that are to fail, the number of faults, and whether a call found no memory
 pub record Standing : Type 0 where
   pub entries : List DirEntry
   pub mode : Mode
   pub put : List ℕ
   pub at : ℕ
   pub pieces : List (List ℕ)
+  pub before : ℕ
   pub calls : ℕ
   pub failing : List ℕ
   pub faults : ℕ
   pub starved : Bool
 
-abbrev pub is_up : Mode → Bool
-is_up modes.Up = true
-is_up modes.Down = false
-is_up modes.Cut = false
-is_up modes.Indef = false
-is_up modes.Long = false
-is_up (modes.Code code) = false
+-- a link that was made: nothing was asked or comes, and its calls are counted on from a number
+abbrev pub made : List DirEntry → Mode → List ℕ → ℕ → Standing
+made entries mode failing before =
+    record { entries = entries; mode = mode; put = []; at = 0; pieces = []; before = before; calls = before; failing = failing; faults = 0; starved = false }
 
--- what is told where a test holds
-abbrev pub told_where : {A : Type 0} → Bool → A → Option A
-told_where true x = Some x
-told_where false x = None
+-- the bytes to come
+abbrev pub rest_of : Standing → List ℕ
+rest_of s = drop s.at s.put
 
--- the bytes to come are told in mode up
 abbrev pub coming_of : Standing → Option (List ℕ)
-coming_of s = told_where (is_up s.mode) (drop s.at s.put)
+coming_of s = Some (rest_of s)
 
--- the directory is told in mode up, where each entry has a DN of its own
+-- the bytes received
+abbrev pub received_of : Standing → List ℕ
+received_of s = take s.at s.put
+
+-- what answers a piece: nothing once a cut link has ended
+abbrev pub answer_of : Standing → List ℕ → List ℕ
+answer_of s piece = if has_ended s.mode s.put then [] else answer_by s.mode s.entries piece
+
+abbrev pub behind_in : Option Framing → List DirEntry → Option Behind
+behind_in (Some framing) entries = Some (record { entries = entries; framing = framing })
+behind_in None entries = None
+
+-- a directory is told where each entry has a DN of its own
+abbrev pub behind_by : Mode → List DirEntry → Option Behind
+behind_by mode entries = if have_own_dns entries then behind_in (framing_of mode) entries else None
+
+-- it is told in the modes up and long
 abbrev pub behind_of : Standing → Option Behind
-behind_of s = told_where (is_up s.mode && have_own_dns s.entries) (record { entries = s.entries; framing = shortest })
+behind_of s = behind_by s.mode s.entries
 
 -- counts stand still at the greatest number
 abbrev pub counted : ℕ → ℕ
 counted n = min (n + 1) (2 ^ 64 - 1)
 
--- the next call is to fail
+-- a call of this number is to fail
 abbrev pub is_listed : List ℕ → ℕ → Bool
 is_listed failing call = list_any (λ n. n == call) failing
+
+-- the next call is to fail
+abbrev pub is_next_listed : Standing → Bool
+is_next_listed s = is_listed s.failing (counted s.calls)
 
 -- a call that failed
 abbrev pub refused : Standing → Standing
@@ -69,11 +84,19 @@ with_received s count = record s { calls = counted s.calls; at = s.at + count }
 
 -- A send fails only where its call is listed or the link is starved.
 abbrev pub IsSendRefused : Standing → Standing → Type 0
-IsSendRefused old new = ((is_listed old.failing (counted old.calls) ≡ true) × (new ≡ refused old)) ⊎ (new ≡ refused_starving old)
+IsSendRefused old new = ((is_next_listed old ≡ true) × (new ≡ refused old)) ⊎ (new ≡ refused_starving old)
 
 -- A receive fails only where its call is listed or no byte is to come.
 abbrev pub IsReceiveRefused : Standing → Standing → Type 0
-IsReceiveRefused old new = (new ≡ refused old) × ((is_listed old.failing (counted old.calls) ≡ true) ⊎ (drop old.at old.put ≡ []))
+IsReceiveRefused old new = (new ≡ refused old) × ((is_next_listed old ≡ true) ⊎ (rest_of old ≡ []))
+
+-- What is so once a send has failed: its call is listed, or the link is starved.
+abbrev pub Refuses : Standing → Type 0
+Refuses s = (is_listed s.failing s.calls ≡ true) ⊎ (s.starved ≡ true)
+
+-- What is so once a receive has failed: its call is listed, or no byte is to come.
+abbrev pub Ends : Standing → Type 0
+Ends s = (is_listed s.failing s.calls ≡ true) ⊎ (rest_of s ≡ [])
 
 -- a piece was kept, or none
 abbrev pub WentBy : Standing → Option (List ℕ) → Standing → Type 0

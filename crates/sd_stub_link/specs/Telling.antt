@@ -1,25 +1,26 @@
 -- What a link to a directory in memory tells keeps the laws of directory links.
-use Rattle.std.proofs.Common.{◌≡◌, ℕ, ◌+◌, ◌^◌, ◌<◌, ◌≤◌, take, drop, Bool, true, false, not, ◌&&◌, cond, List, [], ◌∷◌, ◌++◌, length, Option, Some, None, Result, Ok, Err, refl, sym, ap, subst, ◌∙◌}
+use Rattle.std.proofs.Common.{◌≡◌, ℕ, ◌+◌, ◌^◌, ◌<◌, ◌≤◌, take, drop, Bool, true, false, ◌&&◌, List, [], ◌∷◌, ◌++◌, length, Option, Some, None, Result, Ok, Err, refl, sym, ap, subst, ◌∙◌}
 use Rattle.std.proofs.lemmas.Bool.{and_from, and_parts, not-true, cond-true, false_from_ne_true, cond-false}
 use Rattle.std.proofs.lemmas.List.{append-nil, drop-append-le, take-append-le, take-append-drop, drop-drop}
 use Rattle.std.proofs.Math.Seq.{take-add}
 use Rattle.std.specs.Io.KnownBytes.{append_known, prepend_known}
-use Rattle.std.specs.Prelude.{IsSome}
-use Rattle.std.specs.List.{list_any}
+use Rattle.std.specs.Prelude.{IsSome, if◌then◌else◌}
 use Rattle.std.specs.Cmp.Lexicographic.{bytes_decides}
-use Rattle.sd_dn.specs.Texts.{same_dn_text}
 use Rattle.sd_ber.specs.Reading.{start_of, element_at}
 use Rattle.sd_ldap.specs.declared.entry.DirEntry.{DirEntry}
 use Rattle.sd_ldap.specs.Values.{MessageValue}
 use Rattle.sd_ldap.specs.Spelling.{message_bytes}
 use Rattle.sd_ldap.specs.Sound.{IsSound}
-use Rattle.sd_match.specs.Answering.{same_bytes, answer_to}
+use Rattle.sd_match.specs.Answering.{same_bytes}
 use Rattle.sd_dial.specs.Asked.{with_message, IsNoMessage}
-use Rattle.sd_dial.specs.Entries.{Behind, HaveOwnDns, shortest, answer_behind}
+use Rattle.sd_dial.specs.Entries.{Behind, HaveOwnDns, answer_behind}
+use Rattle.sd_stub.specs.declared.Mode.{Mode}
+use Rattle.sd_stub.specs.declared.Mode.TheVariants as modes
 use Rattle.sd_stub_link.specs.Sounding.{is_sound}
 use Rattle.sd_stub_link.specs.Asking.{read_in, checked, message_of, with_found, messages_of}
 use Rattle.sd_stub_link.specs.Distinct.{is_own_dn, have_own_dns}
-use Rattle.sd_stub_link.specs.Standing.{Standing, is_up, told_where, coming_of, behind_of, with_reply, with_received, Went}
+use Rattle.sd_stub_link.specs.Modes.{answer_by, framing_of, has_ended}
+use Rattle.sd_stub_link.specs.Standing.{Standing, coming_of, received_of, rest_of, answer_of, behind_in, behind_of, with_reply, with_received, Went}
 use Rattle.sd_stub_link.specs.Sounds.{sound_told, sound_tested}
 use Rattle.sd_stub_link.specs.Whole.{whole_again}
 
@@ -79,52 +80,52 @@ unfolding have_own_dns
 own_dns [] e = tt
 own_dns (first ∷ rest) e = let p = and_parts (is_own_dn first rest) (have_own_dns rest) e in (not-true _ p.0, own_dns rest p.1)
 
--- what is told where two tests hold
-both_hold : {A : Type 0} (a b : Bool) (x y : A) → told_where (a && b) x ≡ Some y → (a ≡ true) × (b ≡ true) × (x ≡ y)
-both_hold true true x y e = (refl, refl, cc)
-both_hold true false x y e = absurd cc
-both_hold false b x y e = absurd cc
+some_is : (a b : Behind) → Some a ≡ Some b → a ≡ b
+some_is a b e = cc
 
-tells_where : (a : Bool) (x : List ℕ) → a ≡ true → IsSome (told_where a x)
-tells_where true x e = refl
-tells_where false x e = absurd cc
+-- what is told where a test holds
+told_by : (own : Bool) (entries : List DirEntry) (mode : Mode) (known : Behind) → (if own then behind_in (framing_of mode) entries else None) ≡ Some known
+    → (own ≡ true) × (behind_in (framing_of mode) entries ≡ Some known)
+told_by true entries mode known e = (refl, e)
+told_by false entries mode known e = absurd cc
 
--- what stands behind a link
-abbrev standing_behind : Standing → Behind
-standing_behind link = record { entries = link.entries; framing = shortest }
+-- what is told answers as the mode does
+told_answers : (mode : Mode) (entries : List DirEntry) (put piece : List ℕ) (known : Behind) → behind_in (framing_of mode) entries ≡ Some known
+    → (known.entries ≡ entries) × ((if has_ended mode put then [] else answer_by mode entries piece) ≡ answer_behind known piece)
+told_answers modes.Up entries put piece known e = let is = some_is _ known e in (ap (λ (b : Behind). b.entries) (sym is), ap (λ (b : Behind). answer_behind b piece) is)
+told_answers modes.Long entries put piece known e = let is = some_is _ known e in (ap (λ (b : Behind). b.entries) (sym is), ap (λ (b : Behind). answer_behind b piece) is)
+told_answers modes.Cut entries put piece known e = absurd cc
+told_answers modes.Indef entries put piece known e = absurd cc
+told_answers (modes.Code code) entries put piece known e = absurd cc
+told_answers modes.Down entries put piece known e = absurd cc
 
 pub tells_coming : (link : Standing) (known : Behind) → behind_of link ≡ Some known → IsSome (coming_of link) × HaveOwnDns known.entries
 tells_coming link known e =
-    let h = both_hold (is_up link.mode) (have_own_dns link.entries) (standing_behind link) known e in
-    (tells_where (is_up link.mode) _ h.0, subst (λ (b : Behind). HaveOwnDns b.entries) h.2 (own_dns link.entries h.1))
+    let h = told_by (have_own_dns link.entries) link.entries link.mode known e in
+    (refl, subst HaveOwnDns (sym (told_answers link.mode link.entries link.put [] known h.1).0) (own_dns link.entries h.0))
 
-pub answers : (link : Standing) (known : Behind) (piece : List ℕ) → behind_of link ≡ Some known → answer_to link.entries piece ≡ answer_behind known piece
-answers link known piece e = ap (λ (b : Behind). answer_behind b piece) (both_hold (is_up link.mode) (have_own_dns link.entries) (standing_behind link) known e).2
+pub answers : (link : Standing) (known : Behind) (piece : List ℕ) → behind_of link ≡ Some known → answer_of link piece ≡ answer_behind known piece
+answers link known piece e = (told_answers link.mode link.entries link.put piece known (told_by (have_own_dns link.entries) link.entries link.mode known e).1).1
 
 -- ---- the bytes to come and those received
 
 abbrev bytes_told : List ℕ → Option (List ℕ)
 bytes_told bytes = Some bytes
 
-coming_put : (is : Bool) (at : ℕ) (put reply : List ℕ) → at ≤ length put → told_where is (drop at (put ++ reply)) ≡ append_known (told_where is (drop at put)) reply
-coming_put true at put reply h = ap bytes_told (drop-append-le at put reply h)
-coming_put false at put reply h = refl
-
 pub coming_after : (old new : Standing) (piece reply : List ℕ) → new ≡ with_reply old piece reply → old.at ≤ length old.put → coming_of new ≡ append_known (coming_of old) reply
-coming_after old new piece reply e h = ap (λ (s : Standing). coming_of s) e ∙ coming_put (is_up old.mode) old.at old.put reply h
+coming_after old new piece reply e h = ap (λ (s : Standing). coming_of s) e ∙ ap bytes_told (drop-append-le old.at old.put reply h)
 
-pub received_after : (old new : Standing) (piece reply : List ℕ) → new ≡ with_reply old piece reply → old.at ≤ length old.put → bytes_told (take new.at new.put) ≡ bytes_told (take old.at old.put)
-received_after old new piece reply e h = ap (λ (s : Standing). bytes_told (take s.at s.put)) e ∙ ap bytes_told (take-append-le old.at old.put reply h)
+pub received_after : (old new : Standing) (piece reply : List ℕ) → new ≡ with_reply old piece reply → old.at ≤ length old.put → bytes_told (received_of new) ≡ bytes_told (received_of old)
+received_after old new piece reply e h = ap (λ (s : Standing). bytes_told (received_of s)) e ∙ ap bytes_told (take-append-le old.at old.put reply h)
 
-coming_given : (is : Bool) (at n : ℕ) (put front : List ℕ) → front ≡ take n (drop at put) → told_where is (drop at put) ≡ prepend_known front (told_where is (drop (at + n) put))
-coming_given true at n put front e = rw (e, ← drop-drop n at put) (ap bytes_told (sym (take-append-drop n (drop at put))))
-coming_given false at n put front e = refl
+coming_given : (at n : ℕ) (put front : List ℕ) → front ≡ take n (drop at put) → bytes_told (drop at put) ≡ prepend_known front (bytes_told (drop (at + n) put))
+coming_given at n put front e = rw (e, ← drop-drop n at put) (ap bytes_told (sym (take-append-drop n (drop at put))))
 
-pub front_given : (old new : Standing) (n : ℕ) (rest front : List ℕ) → rest ≡ drop old.at old.put → front ≡ take n rest → new ≡ with_received old n → coming_of old ≡ prepend_known front (coming_of new)
+pub front_given : (old new : Standing) (n : ℕ) (rest front : List ℕ) → rest ≡ rest_of old → front ≡ take n rest → new ≡ with_received old n → coming_of old ≡ prepend_known front (coming_of new)
 front_given old new n rest front r f e =
-    coming_given (is_up old.mode) old.at n old.put front (f ∙ ap (λ (bytes : List ℕ). take n bytes) r) ∙ ap (λ (s : Standing). prepend_known front (coming_of s)) (sym e)
+    coming_given old.at n old.put front (f ∙ ap (λ (bytes : List ℕ). take n bytes) r) ∙ ap (λ (s : Standing). prepend_known front (coming_of s)) (sym e)
 
-pub received_given : (old new : Standing) (n : ℕ) (rest front : List ℕ) → rest ≡ drop old.at old.put → front ≡ take n rest → new ≡ with_received old n → bytes_told (take new.at new.put) ≡ bytes_told (take old.at old.put ++ front)
+pub received_given : (old new : Standing) (n : ℕ) (rest front : List ℕ) → rest ≡ rest_of old → front ≡ take n rest → new ≡ with_received old n → bytes_told (received_of new) ≡ bytes_told (received_of old ++ front)
 received_given old new n rest front r f e =
-    ap (λ (s : Standing). bytes_told (take s.at s.put)) e
+    ap (λ (s : Standing). bytes_told (received_of s)) e
     ∙ ap bytes_told (take-add old.at n old.put ∙ ap (λ (bytes : List ℕ). take old.at old.put ++ bytes) (sym (f ∙ ap (λ (bytes : List ℕ). take n bytes) r)))
