@@ -1,0 +1,10 @@
+pub mod Frames
+pub mod Replies
+pub mod Walk
+pub mod Stream
+pub mod Requests
+pub mod Rooms
+pub mod Arriving
+pub mod Outcomes
+pub mod Searches
+pub mod Binds

@@ -1,0 +1,6 @@
+pub mod Sizes
+pub mod Rooms
+pub mod Settled
+pub mod Searching
+pub mod Binding
+pub mod Laws
