@@ -1,0 +1,13 @@
+pub mod Before
+pub mod Exchanges
+pub mod Same
+pub mod Sent
+pub mod Turns
+pub mod In
+pub mod Marks
+pub mod PathEnds
+pub mod Reached
+pub mod Spelled
+pub mod Held
+pub mod Ascending
+pub mod Found
