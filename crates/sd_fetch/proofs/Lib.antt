@@ -1,0 +1,16 @@
+pub mod Requests
+pub mod Sent
+pub mod Numerals
+pub mod Fits
+pub mod Alike
+pub mod Exchanges
+pub mod Answers
+pub mod RoundLaws
+pub mod Chains
+pub mod Furthers
+pub mod Walk
+pub mod Found
+pub mod Seeking
+pub mod RuleLaws
+pub mod Choosing
+pub mod Looking

@@ -1,0 +1,9 @@
+pub mod Searches
+pub mod Lookup
+pub mod Exchanging
+pub mod Told
+pub mod Early
+pub mod Rounding
+pub mod Further
+pub mod Looked
+pub mod Sought
