@@ -1,20 +1,14 @@
-// What the lines of a scenario's text spell, each by itself.
+// What a scenario's text spells: its configuration and its lines, or the first line without a form.
 #![tactic(auto)]
 
-pub mod access;
-pub mod accounts;
-pub mod daemon;
-pub mod forms;
+pub mod faults;
+pub mod head;
 pub mod lines;
-pub mod tasks;
 pub mod words;
 
-pub use forms::{is_comment, line_of};
-pub use lines::{
-    GroupLine, HostLine, Item, ItemList, Kind, Line, Member, Members, RuleLine, ServiceLine, Side,
-    UserLine, Whom, is_blank,
-};
-pub use sd_stub::Mode;
+pub use faults::{ConfigRead, Scope, config_of, first_bad, first_bad_behind};
+pub use head::{Head, Origin, head_of};
+pub use lines::{Line, Mode, is_blank, line_of};
 pub use words::cut;
 
 #[cfg(test)]

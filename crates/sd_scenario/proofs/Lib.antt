@@ -1,6 +1,5 @@
+pub mod Names
 pub mod Statuses
-pub mod TaskLaws
-pub mod KnownLaws
-pub mod ReplyLaws
+pub mod Fitting
 pub mod Counting
 pub mod Output

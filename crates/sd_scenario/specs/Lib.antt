@@ -1,7 +1,6 @@
-pub mod Courses
+pub mod Directory
 pub mod Clients
 pub mod Past
-pub mod Modes
 pub mod Tasks
 pub mod Prints
 pub mod Transcript

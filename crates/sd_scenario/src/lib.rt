@@ -1,7 +1,6 @@
 // The scenario command: lines of text that make up a directory and drive the daemon, and what is printed.
 #![tactic(auto)]
 
-pub mod asking;
 pub mod client;
 pub mod command;
 pub mod directory;
@@ -9,7 +8,6 @@ pub mod endings;
 pub mod moves;
 pub mod runs;
 pub mod stop;
-pub mod task;
 #[cfg(test)]
 mod tests;
 pub mod world;

@@ -1,5 +1,0 @@
-pub mod Blocks
-pub mod Head
-pub mod Faults
-pub mod Laws
-pub mod Seen

@@ -1,8 +1,0 @@
-use Rattle.std.proofs.Common.{ap, subst, sym, ◌∙◌}
-use Rattle.std.proofs.lemmas.Result.{IfOk-weaker}
-use Rattle.sd_asking.specs.Rooms.{AreShort}
-use Rattle.sd_provider.proofs.Rooms.{are_short, short_kept}
-use Rattle.sd_provider.proofs.looking.short_directory.Goals as goal
-
-pub returns-clause-short : goal.returns-clause-short
-returns-clause-short c = IfOk-weaker c.directory_of.result _ _ (λ directory e. subst AreShort (sym e) (short_kept c.args.entries.now (ap are_short (sym c.items.ensures) ∙ (sym c.are_short.ensures ∙ c.if-not-are_short.false)))) c.directory_of.ensures.kept
