@@ -10,3 +10,6 @@ mod rules;
 mod searches;
 
 pub use lookup::fetch;
+
+#[cfg(test)]
+mod tests;
