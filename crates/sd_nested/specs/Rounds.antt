@@ -71,7 +71,7 @@ member_way entries base = record {
   admits = λ dn. ends_with dn base;
 }
 
--- the first round reads the member values of the group, which counts as not yet read
+-- the first round reads the member values of the group, which itself counts as unread
 abbrev pub first_values : List (List Pair) → DirEntry → List (List ℕ)
 first_values base group = new_among (λ dn. ends_with dn base) [] (group_values group)
 
