@@ -14,7 +14,7 @@ use Rattle.sd_core.specs.declared.lists.ListFault.{ListFault}
 use Rattle.sd_core.specs.declared.lists.ListFault.TheVariants as faults
 use Rattle.sd_core.specs.declared.lists.Step.{Step}
 use Rattle.sd_core.specs.Growth.{IsGrown}
-use Rattle.sd_core.specs.Lists.{are_steppable, after_all, LeadsTo, StopsAt, EndsEarly}
+use Rattle.sd_core.specs.Lists.{are_steppable, after_all, EndsEarly}
 
 both_true : (a b : Bool) → a ≡ true → b ≡ true → a && b ≡ true
 both_true true b h i = i

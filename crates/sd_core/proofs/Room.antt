@@ -1,11 +1,11 @@
 -- Places: a step reserves at most one more, and one that gives a place back reserves one less.
-use Rattle.std.proofs.Common.{◌≡◌, ℕ, ◌+◌, ◌≤◌, Bool, true, false, List, [], ◌∷◌, arith, refl, sym, subst}
-use Rattle.std.specs.Prelude.{Option, Some, None, cond, is_some, ◌==◌, ◌||◌, if◌then◌else◌}
+use Rattle.std.proofs.Common.{◌≡◌, ℕ, ◌+◌, ◌-◌, ◌*◌, ◌^◌, ◌≤◌, Bool, nat_lt, true, false, List, [], ◌∷◌, arith, refl, sym, subst, ◌∙◌}
+use Rattle.std.specs.Prelude.{length, Option, Some, None, cond, is_some, ◌==◌, ◌||◌, if◌then◌else◌}
 use Rattle.std.proofs.lemmas.Grind.{common_steps}
 use Rattle.std.proofs.lemmas.Bool.Decides.{nat_tests}
 use Rattle.sd_rules.specs.declared.replies.Entry.{Entry}
 use Rattle.sd_rules.specs.Requests.{unclosed, closes, opens_request, opens_attempt, has_opened_request, has_opened_attempt, is_open, waits_for, ends_waiting, joined, reserves, reserved_among, reserved_places}
-use Rattle.sd_rules.specs.Steps.{number_after}
+use Rattle.sd_rules.specs.Steps.{Daemon, number_after, next_number, lacks_places, lacks_numbers}
 use Rattle.sd_core.specs.Sound.{falls_from}
 
 -- the next number is above the last entry's
@@ -181,3 +181,36 @@ given_back e past n h f g own =
     let rest = one_less e past n past h (reserves_stands past n f) f g in
     let none = place_free (reserves (e ∷ past) e.number) own in
     omega arith
+
+one_at_most : (b : Bool) → (if b then 1 else 0) ≤ 1
+one_at_most true = omega arith
+one_at_most false = omega arith
+
+reserved_among_at_most : (all past : List Entry) → reserved_among all past ≤ length past
+reserved_among_at_most all [] = omega arith
+reserved_among_at_most all (e ∷ past) =
+    let here = one_at_most (reserves all e.number) in
+    let rest = reserved_among_at_most all past in
+    omega arith
+
+-- each entry reserves one place at most
+pub reserved_at_most : (past : List Entry) → reserved_places past ≤ length past
+reserved_at_most past = reserved_among_at_most past past
+
+-- where even a place for each entry is left, none is lacking
+pub places_left : (limit kept : ℕ) (d : Daemon) → limit ≡ d.settings.journal_limit → kept ≡ length d.past →
+    2 * kept + 2 ≤ limit → nat_lt limit (2 * kept + 2) ≡ lacks_places d
+places_left limit kept d l k h =
+    let most = reserved_at_most d.past in
+    let here : nat_lt limit (2 * kept + 2) ≡ false = grind (arith, nat_tests, h) in
+    let none : lacks_places d ≡ false = grind (arith, nat_tests, l, k, h, most) in
+    here ∙ sym none
+
+-- and numbers likewise
+pub numbers_left : (last next kept : ℕ) (d : Daemon) → last ≡ 2 ^ 64 - 1 → next ≡ next_number d → kept ≡ length d.past →
+    next + kept + 2 ≤ last → nat_lt last (next + kept + 2) ≡ lacks_numbers d
+numbers_left last next kept d l n k h =
+    let most = reserved_at_most d.past in
+    let here : nat_lt last (next + kept + 2) ≡ false = grind (arith, nat_tests, h) in
+    let none : lacks_numbers d ≡ false = grind (arith, nat_tests, l, n, k, h, most) in
+    here ∙ sym none

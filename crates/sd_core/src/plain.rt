@@ -160,10 +160,12 @@ impl PlainCore {
         (entries.len() + reserved_places(entries)) as u64
     }
 
+    /// Places are counted only where they could be too few: each entry reserves at most one.
     fn lacks_places(&self) -> bool
         ensures { result ≡ steps.lacks_places self.now }
     {
-        u128::from(self.settings.journal_limit) < u128::from(self.full_count()) + 2
+        let limit = u128::from(self.settings.journal_limit);
+        limit < 2 * (self.entries.len() as u128) + 2 && limit < u128::from(self.full_count()) + 2
     }
 
     fn lacks_text(&self, event: &Event) -> bool
@@ -172,11 +174,15 @@ impl PlainCore {
         TEXT_LIMIT < self.text_bytes.saturating_add(of_event(event))
     }
 
+    /// Whether the numbers are at their end; places are counted as in `lacks_places`.
     fn lacks_numbers(&self) -> bool
         ensures { result ≡ steps.lacks_numbers self.now }
     {
-        let reserved = reserved_places(self.entries.items()) as u128;
-        u128::from(u64::MAX) < u128::from(self.next_number()) + reserved + 2
+        let last = u128::from(u64::MAX);
+        let next = u128::from(self.next_number());
+        let entries = self.entries.items();
+        last < next + entries.len() as u128 + 2
+            && last < next + reserved_places(entries) as u128 + 2
     }
 
     /// Whether the journal has no room for an event.
