@@ -9,8 +9,6 @@ pub mod config;
 pub mod lines;
 pub mod options;
 pub mod servers;
-#[cfg(test)]
-mod tests;
 pub mod texts;
 pub mod values;
 

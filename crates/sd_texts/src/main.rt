@@ -1,0 +1,82 @@
+// Reads worked texts: standard input has distinguished names, configurations and entries in LDIF, standard output gets
+// what each of them says, or why it is refused.
+//
+// A line `dn TEXT` has a DN, a line `dns TEXT | TEXT` two of them. A line `conf`, `config` or `ldif` begins a block,
+// whose text runs to a line that is a dot alone, without the end of its last line; of a `config` everything is told, of
+// a `conf` whether it is read. Other lines are printed as they stand.
+#![tactic(auto)]
+
+mod configs;
+mod entries;
+mod lines;
+mod names;
+
+use lines::{cut_block, cut_line};
+use sd_base::{Memory, ReaderSource, WriterSink, read_all, write_all};
+use std::alloc::Global;
+use std::process::ExitCode;
+
+/// The longest input, in bytes.
+const LIMIT: usize = 1 << 20;
+
+/// What a line alone says.
+fn print_one(alloc: Global, line: &[u8], out: &mut Vec<u8>) -> Result<(), Memory> {
+    match line {
+        [b'd', b'n', b' ', text @ ..] => names::print_name(alloc, text, out),
+        [b'd', b'n', b's', b' ', texts @ ..] => names::print_two(alloc, texts, out),
+        _ => lines::print_line(out, line),
+    }
+}
+
+/// Says what the first line, or the block that begins there, says, and gives what comes behind it.
+fn print_next<'a>(alloc: Global, text: &'a [u8], out: &mut Vec<u8>) -> Result<&'a [u8], Memory> {
+    let (line, rest) = cut_line(text);
+    let (block, behind) = cut_block(rest);
+    if line == b"conf".as_slice() {
+        configs::print_verdict(alloc, block, out)?;
+        return Ok(behind);
+    }
+    if line == b"config".as_slice() {
+        configs::print_all(alloc, block, out)?;
+        return Ok(behind);
+    }
+    if line == b"ldif".as_slice() {
+        entries::print_all(alloc, block, out)?;
+        return Ok(behind);
+    }
+    print_one(alloc, line, out)?;
+    Ok(rest)
+}
+
+/// What all of a text says.
+fn print_text(alloc: Global, text: &[u8]) -> Result<Vec<u8>, Memory> {
+    let mut out = Vec::new(alloc);
+    let mut left = text;
+    for _ in 0..text.len() {
+        if left.is_empty() {
+            break;
+        }
+        left = print_next(alloc, left, &mut out)?;
+    }
+    Ok(out)
+}
+
+fn run(rt: &HostRuntime) -> u8 {
+    let alloc = rt.alloc();
+    let mut source = ReaderSource::new(rt.stdin());
+    let mut sink = WriterSink::new(rt.stdout());
+    let Ok(text) = read_all(alloc, &mut source, LIMIT) else {
+        return 3;
+    };
+    let Ok(out) = print_text(alloc, text.as_slice()) else {
+        return 7;
+    };
+    match write_all(&mut sink, out.as_slice()) {
+        Ok(()) => 0,
+        Err(_) => 4,
+    }
+}
+
+fn main(rt: HostRuntime) -> ExitCode {
+    ExitCode::from(run(&rt))
+}
