@@ -8,6 +8,3 @@ mod searching;
 pub use binding::bind;
 pub use laws::decides_alone;
 pub use searching::search;
-
-#[cfg(test)]
-mod tests;

@@ -10,6 +10,3 @@ mod rules;
 mod searches;
 
 pub use lookup::fetch;
-
-#[cfg(test)]
-mod tests;

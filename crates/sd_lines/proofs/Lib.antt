@@ -1,2 +1,3 @@
+pub mod Collecting
+pub mod Counts
 pub mod Pieces
-pub mod Forms

@@ -1,5 +1,6 @@
 pub mod Words
+pub mod Accounts
+pub mod Access
+pub mod Daemon
+pub mod Tasks
 pub mod Lines
-pub mod Head
-pub mod Faults
-pub mod Seen

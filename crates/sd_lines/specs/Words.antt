@@ -1,5 +1,5 @@
 -- Lines, words, numbers and names of a scenario's text.
-use Rattle.std.specs.Prelude.{ℕ, Bool, true, false, ◌&&◌, ◌||◌, ◌==◌, ◌+◌, ◌-◌, ◌*◌, not, nat_le, List, [], ◌∷◌, Option, Some, None, filter, fold, length, if◌then◌else◌}
+use Rattle.std.specs.Prelude.{ℕ, Bool, true, false, ◌&&◌, ◌||◌, ◌==◌, ◌+◌, ◌-◌, ◌*◌, ◌^◌, not, nat_le, List, [], ◌∷◌, Option, Some, None, filter, fold, length, if◌then◌else◌}
 use Rattle.std.specs.List.{slice_split, list_all}
 
 abbrev pub is_empty : List ℕ → Bool
@@ -36,6 +36,10 @@ abbrev pub number_of : ℕ → List ℕ → Option ℕ
 number_of limit w =
     if not (is_empty w) && (list_all is_digit w && nat_le (value_of w) limit) then Some (value_of w) else None
 
+-- a number that fits 32 bits
+abbrev pub id_of : List ℕ → Option ℕ
+id_of w = number_of (2 ^ 32 - 1) w
+
 -- a letter, a digit, a dot, an underscore or a hyphen
 abbrev pub is_name_byte : ℕ → Bool
 is_name_byte b =
@@ -62,9 +66,33 @@ abbrev pub pair_of : List (List ℕ) → Option (List ℕ × List ℕ)
 pair_of (a ∷ b ∷ []) = Some (a, b)
 pair_of _ = None
 
-abbrev pub triple_of : List (List ℕ) → Option (List ℕ × (List ℕ × List ℕ))
-triple_of (a ∷ b ∷ c ∷ []) = Some (a, (b, c))
-triple_of _ = None
+-- the first words, where there are so many, and those behind them
+abbrev pub first_of : List (List ℕ) → Option (List ℕ × List (List ℕ))
+first_of (a ∷ ws) = Some (a, ws)
+first_of _ = None
+
+abbrev pub two_of : List (List ℕ) → Option (List ℕ × (List ℕ × List (List ℕ)))
+two_of (a ∷ b ∷ ws) = Some (a, (b, ws))
+two_of _ = None
+
+abbrev pub three_of : List (List ℕ) → Option (List ℕ × (List ℕ × (List ℕ × List (List ℕ))))
+three_of (a ∷ b ∷ c ∷ ws) = Some (a, (b, (c, ws)))
+three_of _ = None
+
+-- the letter of a word `L:NAME`, and the name
+abbrev pub tag_of : List ℕ → Option (ℕ × List ℕ)
+tag_of (letter ∷ colon ∷ name) = if colon == 58 then Some (letter, name) else None
+tag_of _ = None
+
+-- what each word says, where each says something
+abbrev pub with_first : {A : Type 0} → Option A → Option (List A) → Option (List A)
+with_first None more = None
+with_first (Some a) None = None
+with_first (Some a) (Some more) = Some (a ∷ more)
+
+abbrev pub all_of : {A : Type 0} → (List ℕ → Option A) → List (List ℕ) → Option (List A)
+all_of one [] = Some []
+all_of one (w ∷ ws) = with_first (one w) (all_of one ws)
 
 -- a line without the spaces at its front
 abbrev pub without_spaces : List ℕ → List ℕ

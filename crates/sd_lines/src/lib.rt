@@ -1,15 +1,18 @@
-// What a scenario's text spells: its configuration and its lines, or the first line without a form.
+// What the lines of a scenario's text spell, each by itself.
 #![tactic(auto)]
 
-pub mod faults;
-pub mod head;
+pub mod access;
+pub mod accounts;
+pub mod daemon;
+pub mod forms;
 pub mod lines;
+pub mod tasks;
 pub mod words;
 
-pub use faults::{ConfigRead, Scope, config_of, first_bad, first_bad_behind};
-pub use head::{Head, Origin, head_of};
-pub use lines::{Line, Mode, is_blank, line_of};
+pub use forms::{is_comment, line_of};
+pub use lines::{
+    GroupLine, HostLine, Item, ItemList, Kind, Line, Member, Members, RuleLine, ServiceLine, Side,
+    UserLine, Whom, is_blank,
+};
+pub use sd_stub::Mode;
 pub use words::cut;
-
-#[cfg(test)]
-mod tests;

@@ -9,6 +9,3 @@ mod walks;
 
 pub use searcher::{Searcher, Stop};
 pub use walks::{groups_of, members};
-
-#[cfg(test)]
-mod tests;

@@ -1,7 +1,9 @@
 -- Moves that are counted down.
-use Rattle.std.proofs.Common.{◌≡◌, ◌<◌, ◌-◌, ◌∙◌, ℕ, zero, suc, Bool, true, false, cond, Result, Ok, Err, arith, refl, subst, sym, ap}
+use Rattle.std.proofs.Common.{◌≡◌, ◌<◌, ◌-◌, ◌∙◌, ℕ, zero, suc, Bool, true, false, cond, List, ◌∷◌, Result, Ok, Err, arith, refl, subst, sym, ap}
 use Rattle.std.specs.Prelude.{slice_get}
-use Rattle.sd_scenario.specs.Tasks.{World, Halt, ◌>>=◌, move_at, moves_at, client_moved_at, is_ready_at, next_up, run_on}
+use Rattle.sd_rules.specs.declared.events.Event.TheVariants as events
+use Rattle.sd_rules.specs.Steps.{Daemon}
+use Rattle.sd_scenario.specs.Tasks.{World, Halt, ◌>>=◌, abandoned, happened, move_at, moves_at, client_moved_at, is_ready_at, next_up, run_on}
 
 pub move_counted : (n : ℕ) (w v : World) (place : ℕ) → 0 < n → move_at w place ≡ Ok v → moves_at (n - 1) v place ≡ moves_at n w place
 move_counted zero w v place some h = absurd (omega (arith, some))
@@ -35,3 +37,9 @@ run_stopped (suc n) w last h some ready stop =
     let next : ℕ = next_up w last in
     ap (λ (b : Bool). cond b (client_moved_at w next >>= λ u. run_on n u next) (Ok w)) ready
     ∙ ap (λ (r : Result World Halt). r >>= λ u. run_on n u next) stop
+
+-- numbers that are abandoned one after the other
+pub abandoned_next : (ns rest : List ℕ) (n : ℕ) (left : List ℕ) (d e f : Daemon) (now : ℕ) → left ≡ n ∷ rest → happened d now (events.Abandon n) ≡ Ok e
+    → abandoned left d now ≡ abandoned ns f now → abandoned rest e now ≡ abandoned ns f now
+abandoned_next ns rest n left d e f now at made told =
+    sym (ap (λ (ms : List ℕ). abandoned ms d now) at ∙ ap (λ (r : Result Daemon ℕ). r >>= λ x. abandoned rest x now) made) ∙ told

@@ -1,5 +1,6 @@
-pub mod Names
 pub mod Statuses
-pub mod Fitting
+pub mod TaskLaws
+pub mod KnownLaws
+pub mod ReplyLaws
 pub mod Counting
 pub mod Output

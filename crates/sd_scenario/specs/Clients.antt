@@ -1,50 +1,35 @@
 -- The clients of a scenario: a task of each, and what its entries left open.
 use Rattle.std.specs.Prelude.{ℕ, Bool, true, false, ◌||◌, ◌==◌, ◌+◌, ◌++◌, nat_lt, remove, length, List, [], ◌∷◌, Option, Some, None, if◌then◌else◌}
-use Rattle.sd_rules.specs.declared.keys.Key.{Key}
-use Rattle.sd_rules.specs.declared.records.Record.{Record}
-use Rattle.sd_rules.specs.declared.records.Record.TheVariants as records
-use Rattle.sd_rules.specs.declared.records.Answered.{Answered}
-use Rattle.sd_rules.specs.declared.records.Answered.TheVariants as answers
 use Rattle.sd_rules.specs.declared.events.Event.{Event}
-use Rattle.sd_rules.specs.declared.events.Event.TheVariants.{Ask, Pick, Fall, Answer, Refuse, Outage, Abandon, LoginOnline, LoginTry, Kept}
+use Rattle.sd_rules.specs.declared.events.Event.TheVariants.{Pick, Fall, Answer, Refuse, Outage, Abandon, LoginOnline, LoginTry}
 use Rattle.sd_rules.specs.declared.replies.Given.{Given}
 use Rattle.sd_rules.specs.declared.replies.Reply.{Reply}
 use Rattle.sd_rules.specs.declared.replies.Reply.TheVariants.{Lead, Refresh, Join, Bind, Cached, Closed, Shut, Tried, Took, NoTicket}
 use Rattle.sd_rules.specs.declared.replies.Verdict.TheVariants.{Accepted}
+use Rattle.sd_rules.specs.declared.tasks.Bound.{Bound}
 use Rattle.sd_rules.specs.declared.tasks.Fetched.{Fetched}
 use Rattle.sd_rules.specs.declared.tasks.Need.{Need}
 use Rattle.sd_rules.specs.declared.tasks.Need.TheVariants as needs
-use Rattle.sd_rules.specs.Keys.{is_user_key}
-use Rattle.sd_rules.specs.declared.scripts.LookupCourse.{LookupCourse}
-use Rattle.sd_rules.specs.Lookups as lookups
-use Rattle.sd_rules.specs.Lookups.{course_replied, course_fetched, course_told}
-use Rattle.sd_rules.specs.Scripts.{Script, Lookup, need_at, is_saying}
-use Rattle.sd_nss.specs.Asked.{Asked}
+use Rattle.sd_rules.specs.Scripts.{need_at, is_saying}
+use Rattle.sd_scenario.specs.Courses.{Course, script_of}
+use Rattle.sd_scenario.specs.Courses as courses
 
--- A client: its task, which is a lookup as far as it has come; the requests and attempts that it leads, in the order in which they
--- were led; the ticket that it waits with; whether its answer was printed; whether it has ended.
+-- A client: its task as far as it has come; the requests and attempts that it leads, in the order in which they were led; the
+-- ticket that it waits with; whether its answer was printed; whether it has ended.
 pub record Client : Type 0 where
-  pub task : Asked
+  pub task : Course
   pub leads : List ℕ
   pub ticket : Option ℕ
   pub is_told : Bool
   pub is_over : Bool
 
--- a client that looks a key up
-abbrev pub begun : Key → Client
-begun key = record { task = record { key = key; course = lookups.begun }; leads = []; ticket = None; is_told = false; is_over = false }
-
--- the script of its task
-abbrev pub script_of : Client → Script
-script_of c = Lookup c.task.key c.task.course
+-- a client of a task
+abbrev pub begun : Course → Client
+begun task = record { task = task; leads = []; ticket = None; is_told = false; is_over = false }
 
 -- what it needs next
 abbrev pub need_of : Client → Need
-need_of c = need_at (script_of c)
-
--- its task with a course
-abbrev pub on_course : Asked → LookupCourse → Asked
-on_course task course = record { key = task.key; course = course }
+need_of c = need_at (script_of c.task)
 
 -- the request or attempt that an event is about
 abbrev pub about : Event → Option ℕ
@@ -102,20 +87,19 @@ ticket_after waiting _ = waiting
 -- a client after the reply to its event about the number n
 abbrev pub replied : Client → Option ℕ → Given → Client
 replied c n given = record {
-  task = on_course c.task (course_replied c.task.course given);
+  task = courses.replied c.task given;
   leads = leads_after c.leads n given.reply;
   ticket = ticket_after c.ticket given.reply;
   is_told = c.is_told;
   is_over = c.is_over;
 }
 
--- a client after a server's answer
+-- a client after its search at a server, and after its bind at a server
 abbrev pub fetched : Client → Fetched → Client
-fetched c answer = record c { task = on_course c.task (course_fetched c.task.course answer) }
+fetched c answer = record c { task = courses.fetched c.task answer }
 
-abbrev pub is_fetch : Need → Bool
-is_fetch (needs.Fetch server key) = true
-is_fetch _ = false
+abbrev pub bound : Client → Bound → Client
+bound c answer = record c { task = courses.bound c.task answer }
 
 abbrev pub is_end : Need → Bool
 is_end needs.End = true
@@ -124,7 +108,7 @@ is_end _ = false
 -- a client whose need was asked: what was to be told is told, and it has ended where nothing is needed
 abbrev pub asked : Client → Client
 asked c = record {
-  task = on_course c.task (course_told c.task.course);
+  task = courses.told c.task;
   leads = c.leads;
   ticket = c.ticket;
   is_told = c.is_told || is_saying (need_of c);
@@ -134,28 +118,3 @@ asked c = record {
 -- a client that has left: it leads nothing and waits for nothing
 abbrev pub gone : Client → Client
 gone c = record { task = c.task; leads = []; ticket = None; is_told = c.is_told; is_over = true }
-
--- ---- a scenario asks for users alone, so far
-
-abbrev pub is_user : Record → Bool
-is_user (records.User user) = true
-is_user _ = false
-
-abbrev pub is_user_found : Option Record → Bool
-is_user_found (Some found) = is_user found
-is_user_found None = true
-
-abbrev pub is_user_answer : Answered → Bool
-is_user_answer (answers.Found found) = is_user found
-is_user_answer answers.Absent = true
-
-abbrev pub is_for_users : Event → Bool
-is_for_users (Ask key) = is_user_key key
-is_for_users (Answer request answered) = is_user_answer answered
-is_for_users (Kept row) = false
-is_for_users _ = true
-
-abbrev pub needs_users : Need → Bool
-needs_users (needs.Step event) = is_for_users event
-needs_users (needs.Fetch server key) = is_user_key key
-needs_users _ = true

@@ -4,7 +4,7 @@ use Rattle.std.specs.Fmt.{decimal}
 use Rattle.sd_rules.specs.Keys.{same_name}
 use Rattle.sd_scenario.specs.declared.endings.Ending.{Ending}
 use Rattle.sd_scenario.specs.declared.endings.TheConstants.{DONE, USAGE, BAD_LINE, JOURNAL_FULL, TOO_LONG, LIMIT}
-use Rattle.sd_lines.specs.Faults.{first_bad}
+use Rattle.sd_layout.specs.Faults.{first_bad}
 use Rattle.sd_scenario.specs.Transcript.{Transcript, transcript}
 
 -- the one list of words that has a form

@@ -1,6 +1,7 @@
-pub mod Directory
+pub mod Courses
 pub mod Clients
 pub mod Past
+pub mod Modes
 pub mod Tasks
 pub mod Prints
 pub mod Transcript

@@ -1,29 +1,31 @@
 -- How the clients of a scenario take their steps.
 use Rattle.std.specs.Prelude.{ℕ, zero, suc, Bool, true, false, ◌&&◌, ◌+◌, ◌++◌, not, slice_get, slice_set, length, List, [], ◌∷◌, Option, Some, None, Result, Ok, Err, if◌then◌else◌}
 use Rattle.sd_rules.specs.declared.keys.Key.{Key}
-use Rattle.sd_rules.specs.declared.records.User.{User}
+use Rattle.sd_ldap.specs.declared.entry.DirEntry.{DirEntry}
 use Rattle.sd_rules.specs.declared.events.Event.{Event}
 use Rattle.sd_rules.specs.declared.events.Event.TheVariants as events
 use Rattle.sd_rules.specs.declared.replies.Entry.{Entry}
 use Rattle.sd_rules.specs.declared.replies.Given.{Given}
+use Rattle.sd_conf.specs.declared.config.Config.{Config}
+use Rattle.sd_rules.specs.declared.tasks.Bound.{Bound}
 use Rattle.sd_rules.specs.declared.tasks.Fetched.{Fetched}
 use Rattle.sd_rules.specs.declared.tasks.Need.{Need}
 use Rattle.sd_rules.specs.declared.tasks.Need.TheVariants as needs
 use Rattle.sd_rules.specs.Requests.{is_open_request, waits_for}
 use Rattle.sd_rules.specs.Steps.{Daemon, after, given, is_full, full_count}
 use Rattle.sd_scenario.specs.declared.directory.Change.{Change}
-use Rattle.sd_scenario.specs.Clients.{Client, about, asked, fetched, gone, need_of, replied}
-use Rattle.sd_scenario.specs.Directory.{looked_up, mode_of, asked_of}
+use Rattle.sd_scenario.specs.Clients.{Client, about, asked, bound, fetched, gone, need_of, replied}
+use Rattle.sd_provider.specs.Servers as servers
+use Rattle.sd_scenario.specs.Modes.{mode_of}
 use Rattle.sd_scenario.specs.Prints.{answer_line, left_line}
 
--- What surrounds the tasks of a scenario: the directory's users, the changes of its servers with the newest first, and the names
--- that are found by name alone; the moment handed in; what stands for a password.
+-- What surrounds the tasks of a scenario: the configuration; the directory's entries; the changes of its servers with the
+-- newest first; the moment handed in.
 pub record Site : Type 0 where
-  pub users : List User
+  pub config : Config
+  pub entries : List DirEntry
   pub changes : List Change
-  pub kept_out : List (List ℕ)
   pub moment : ℕ
-  pub pwfield : List ℕ
 
 -- What a scenario works on: the daemon; what surrounds the tasks; the clients, the first task's first; the most entries that the
 -- journal has; whether tasks are held; and what was printed.
@@ -70,14 +72,19 @@ happened d now event = step d now event >>= λ s. Ok s.0
 
 -- ---- one move of a client
 
--- what the directory answers at a server
-abbrev pub answer_at : Site → ℕ → Key → Fetched
-answer_at s server key = asked_of (mode_of s.changes server) (looked_up s.kept_out s.users key)
+-- what the lookup of a key at a server comes to
+abbrev pub fetched_at : Site → ℕ → Key → Fetched
+fetched_at s server key = servers.fetched_at (mode_of s.changes server) s.config s.entries key
 
--- what needs no event is done at once, with the client and what was printed: the directory is asked, an answer is printed
+-- what a bind at a server comes to
+abbrev pub bound_at : Site → ℕ → List ℕ → List ℕ → Bound
+bound_at s server dn password = servers.bound_at (mode_of s.changes server) s.entries dn password
+
+-- what needs no event is done at once, with the client and what was printed: a server is asked, an answer is printed
 abbrev pub settled_by : Site → ℕ → Client × List ℕ → Need → Client × List ℕ
-settled_by s number p (needs.Fetch server key) = (fetched p.0 (answer_at s server key), p.1)
-settled_by s number p (needs.Say said) = (p.0, p.1 ++ answer_line s.pwfield number said)
+settled_by s number p (needs.Fetch server key) = (fetched p.0 (fetched_at s server key), p.1)
+settled_by s number p (needs.Bind server dn password) = (bound p.0 (bound_at s server dn password), p.1)
+settled_by s number p (needs.Say said) = (p.0, p.1 ++ answer_line s.config.pwfield number said)
 settled_by s number p _ = p
 
 abbrev pub settled : Site → ℕ → Client × List ℕ → Client × List ℕ

@@ -1,26 +1,29 @@
 -- What a scenario prints.
 use Rattle.std.specs.Prelude.{ℕ, Bool, true, false, ◌+◌, ◌-◌, ◌++◌, length, reverse, List, [], ◌∷◌, Option, Some, None, Result, Ok, Err, if◌then◌else◌}
-use Rattle.sd_rules.specs.declared.keys.Key.{Key}
 use Rattle.sd_rules.specs.declared.keys.Key.TheVariants as keys
 use Rattle.sd_rules.specs.declared.events.Event.{Event}
 use Rattle.sd_rules.specs.declared.events.Event.TheVariants as events
 use Rattle.sd_conf.specs.declared.config.Config.{Config}
 use Rattle.sd_lines.specs.declared.lines.Line.{Line}
 use Rattle.sd_lines.specs.declared.lines.Line.TheVariants as lines
-use Rattle.sd_lines.specs.declared.lines.Mode.{Mode}
-use Rattle.sd_lines.specs.Lines.{line_of}
-use Rattle.sd_lines.specs.Head.{Head, head_of}
-use Rattle.sd_lines.specs.Faults.{config_of}
+use Rattle.sd_ldap.specs.declared.entry.DirEntry.{DirEntry}
+use Rattle.sd_layout.specs.declared.blocks.Statement.{Statement}
+use Rattle.sd_layout.specs.Blocks.{statements_of}
+use Rattle.sd_layout.specs.Faults.{config_of}
+use Rattle.sd_layout.specs.Head.{Head, head_of}
+use Rattle.sd_stub.specs.declared.Mode.{Mode}
+use Rattle.sd_directory.specs.Entries.{user_entry, group_entry, host_entry, service_entry, rule_entry, dn_of}
+use Rattle.sd_directory.specs.Keeping.{put, put_all, removed}
 use Rattle.sd_scenario.specs.Clients.{begun}
-use Rattle.sd_scenario.specs.Directory.{put, user_made, without}
+use Rattle.sd_scenario.specs.Courses.{Course, LoginWords, lookup, login, check}
 use Rattle.sd_scenario.specs.Prints.{full_line, journal_text}
 use Rattle.sd_scenario.specs.Tasks.{Site, World, Halt, ◌>>=◌, at_text, happened, moves_at, run_from, left_at}
 
--- where a scenario of this configuration begins: no entry, no user, each server up, moment 0, no task
+-- where a scenario of this configuration begins: no entry of the journal or the directory, each server up, moment 0, no task
 abbrev pub start : Config → World
 start c = record {
   daemon = record { settings = c.settings; next = 1; floor = 0; past = [] };
-  site = record { users = []; changes = []; kept_out = c.settings.filter_users; moment = 0; pwfield = c.pwfield };
+  site = record { config = c; entries = []; changes = []; moment = 0 };
   clients = [];
   limit = c.settings.journal_limit;
   is_held = false;
@@ -30,11 +33,15 @@ start c = record {
 abbrev pub with_site : World → Site → World
 with_site w s = record w { site = s }
 
-abbrev pub user_put : Site → List ℕ → ℕ → ℕ → Site
-user_put s name uid gid = record s { users = put s.users (user_made name uid gid) }
+abbrev pub with_entries : World → List DirEntry → World
+with_entries w entries = record w { site = record w.site { entries = entries } }
 
-abbrev pub user_removed : Site → List ℕ → Site
-user_removed s name = record s { users = without s.users name }
+-- an entry is put, or that of a DN is taken out
+abbrev pub entry_put : World → DirEntry → World
+entry_put w e = with_entries w (put w.site.entries e)
+
+abbrev pub entry_removed : World → List ℕ → World
+entry_removed w dn = with_entries w (removed w.site.entries dn)
 
 abbrev pub server_changed : Site → ℕ → Mode → Site
 server_changed s server mode = record s { changes = record { server = server; mode = mode } ∷ s.changes }
@@ -47,8 +54,11 @@ event_happened w event =
 abbrev pub run_unless_held : World → ℕ → Result World Halt
 run_unless_held w last = if w.is_held then Ok w else run_from w last
 
-abbrev pub looked_up_by : World → Key → Result World Halt
-looked_up_by w key = run_unless_held (record w { clients = w.clients ++ begun key ∷ [] }) (length w.clients)
+abbrev pub client_added : World → Course → World
+client_added w task = record w { clients = w.clients ++ begun task ∷ [] }
+
+abbrev pub task_made : World → Course → Result World Halt
+task_made w task = run_unless_held (client_added w task) (length w.clients)
 
 abbrev pub hold : World → Bool → World
 hold w is_held = record w { is_held = is_held }
@@ -64,27 +74,56 @@ held_line_done w (lines.Step task count) = moves_at count w (task - 1)
 held_line_done w (lines.Abandon task) = left_at w (task - 1)
 held_line_done w _ = Ok w
 
--- a line about the directory, its servers or the moment
-abbrev pub directory_line_done : World → Line → Result World Halt
-directory_line_done w (lines.At moment) = Ok (with_site w (record w.site { moment = moment }))
-directory_line_done w (lines.User name uid gid) = Ok (with_site w (user_put w.site name uid gid))
-directory_line_done w (lines.RemoveUser name) = Ok (with_site w (user_removed w.site name))
-directory_line_done w (lines.Server server mode) = Ok (with_site w (server_changed w.site server mode))
-directory_line_done w _ = Ok w
+-- a line that puts an entry
+abbrev pub entry_line_done : World → Line → World
+entry_line_done w (lines.User user) = entry_put w (user_entry w.site.config.base user)
+entry_line_done w (lines.Group group) = entry_put w (group_entry w.site.config.base group)
+entry_line_done w (lines.Host host) = entry_put w (host_entry w.site.config.base host)
+entry_line_done w (lines.Service service) = entry_put w (service_entry w.site.config.base service)
+entry_line_done w (lines.Rule rule) = entry_put w (rule_entry w.site.config.base rule)
+entry_line_done w _ = w
 
--- what a line does
+-- a line about the directory, its servers or the moment
+abbrev pub directory_line_done : World → Line → World
+directory_line_done w (lines.At moment) = with_site w (record w.site { moment = moment })
+directory_line_done w (lines.Remove kind name) = entry_removed w (dn_of w.site.config.base kind name)
+directory_line_done w (lines.Ldif entries) = with_entries w (put_all w.site.entries entries)
+directory_line_done w (lines.Server server mode) = with_site w (server_changed w.site server mode)
+directory_line_done w line = entry_line_done w line
+
+-- the words of a login, whose password leaves its hash where the configuration says so
+abbrev pub login_words : World → List ℕ → List ℕ → LoginWords
+login_words w user password = record { user = user; password = password; stores = w.site.config.settings.cache_credentials }
+
+-- a line that makes a task
+abbrev pub task_line_done : World → Line → Result World Halt
+task_line_done w (lines.GetUser name) = task_made w (lookup (keys.User name))
+task_line_done w (lines.GetUid uid) = task_made w (lookup (keys.Uid uid))
+task_line_done w (lines.GetGroup name) = task_made w (lookup (keys.Group name))
+task_line_done w (lines.GetGid gid) = task_made w (lookup (keys.Gid gid))
+task_line_done w (lines.GroupsOf name) = task_made w (lookup (keys.GroupsOf name))
+task_line_done w (lines.Login user password) = task_made w (login (login_words w user password))
+task_line_done w (lines.Access user service) = task_made w (check (record { user = user; service = service; mode = w.site.config.settings.access }))
+task_line_done w _ = Ok w
+
+-- what a line does: the operator's word, a task that is made, tasks that are held, or the directory
 abbrev pub line_done : World → Line → Result World Halt
-line_done w (lines.GetUser name) = looked_up_by w (keys.User name)
-line_done w (lines.GetUid uid) = looked_up_by w (keys.Uid uid)
 line_done w (lines.Void what) = event_happened w (events.Void what)
 line_done w lines.Offline = event_happened w events.Offline
 line_done w lines.Online = event_happened w events.Online
 line_done w lines.Journal = Ok (journal_printed w)
+line_done w (lines.GetUser name) = task_line_done w (lines.GetUser name)
+line_done w (lines.GetUid uid) = task_line_done w (lines.GetUid uid)
+line_done w (lines.GetGroup name) = task_line_done w (lines.GetGroup name)
+line_done w (lines.GetGid gid) = task_line_done w (lines.GetGid gid)
+line_done w (lines.GroupsOf name) = task_line_done w (lines.GroupsOf name)
+line_done w (lines.Login user password) = task_line_done w (lines.Login user password)
+line_done w (lines.Access user service) = task_line_done w (lines.Access user service)
 line_done w lines.Hold = held_line_done w lines.Hold
 line_done w lines.Go = held_line_done w lines.Go
 line_done w (lines.Step task count) = held_line_done w (lines.Step task count)
 line_done w (lines.Abandon task) = held_line_done w (lines.Abandon task)
-line_done w line = directory_line_done w line
+line_done w line = Ok (directory_line_done w line)
 
 -- what lines print, and whether a full journal ended them
 pub record Transcript : Type 0 where
@@ -99,15 +138,15 @@ abbrev pub transcript_after : Result World Halt → (World → Transcript) → T
 transcript_after (Err h) rest = halted h
 transcript_after (Ok w) rest = rest w
 
-abbrev pub transcript_on : World → List (List ℕ) → Transcript
+abbrev pub transcript_on : World → List Statement → Transcript
 transcript_on w [] = record { text = w.printed; is_full = false }
-transcript_on w (l ∷ ls) = transcript_after (line_done w (line_of l)) (λ v. transcript_on v ls)
+transcript_on w (s ∷ rest) = transcript_after (line_done w s.line) (λ v. transcript_on v rest)
 
 -- by the configuration; where it is refused nothing is done
-abbrev pub transcript_by : Result Config ℕ → List (List ℕ) → Transcript
+abbrev pub transcript_by : Result Config ℕ → List Statement → Transcript
 transcript_by (Ok c) body = transcript_on (start c) body
 transcript_by (Err n) body = record { text = []; is_full = false }
 
 -- the transcript of a scenario's text
 unfoldable pub transcript : List ℕ → Transcript
-transcript text = transcript_by (config_of (head_of text)) (head_of text).body
+transcript text = transcript_by (config_of (head_of text)) (statements_of (head_of text).number (head_of text).body)

@@ -1,20 +1,19 @@
 // A client of a scenario: its task, and what the entries that it made left open.
-ghost use Rattle.std.specs.Prelude.{◌≡◌, ℕ, ◌+◌, ◌++◌, ◌≤◌, length, true, false, IfOk, OnOk};
-ghost use Rattle.sd_rules.specs.Keys.{is_user_key};
-ghost use Rattle.sd_rules.specs.Lookups.{is_client_key};
-ghost use Rattle.sd_rules.specs.Scripts.{awaits_reply, answers_search, is_out_of_memory};
+ghost use Rattle.std.specs.Prelude.{◌≡◌, ℕ, ◌+◌, ◌++◌, ◌≤◌, length, true, false, IfOk, OnOk, OnErr};
+ghost use Rattle.sd_rules.specs.Scripts.{awaits_reply, awaits_bind, answers_search, fits_found, is_need_of_kind, is_saying, key_at, is_out_of_memory, is_bind_out_of_memory};
 ghost use Rattle.sd_scenario.specs.Clients as clients;
+ghost use Rattle.sd_scenario.specs.Courses as courses;
 
+use crate::task::ClientTask;
 use sd_base::Memory;
-use sd_nss::NssTask;
-use sd_rules::{Event, Fetched, Given, Key, Need, Reply, Task, Verdict};
+use sd_rules::{Bound, Event, Fetched, Given, Need, Reply, Verdict};
 use std::alloc::Global;
 use std::marker::Model;
 
 /// A client of a scenario.
 #[derive(Drop)]
 pub struct Client {
-    task: NssTask,
+    task: ClientTask,
     /// The requests that it leads, by the numbers of their entries.
     leads: Vec<u64>,
     /// The ticket that it waits with.
@@ -25,21 +24,22 @@ pub struct Client {
 }
 
 impl Model for Client {
-    ghost use Rattle.std.specs.Prelude.{◌≡◌, true};
-    ghost use Rattle.sd_rules.specs.Keys.{is_user_key};
+    ghost use Rattle.std.specs.Prelude.{◌≡◌};
     ghost use Rattle.sd_scenario.specs.Clients as clients;
+    ghost use Rattle.sd_scenario.specs.Courses as courses;
 
     ghost Value = { clients.Client };
 
     ghost view = { λ c. record {
-      task = c.task;
+      task = courses.seen c.task;
       leads = c.leads.items;
       ticket = c.ticket;
       is_told = c.is_told;
       is_over = c.is_over;
     } };
 
-    ghost invariant = { λ c. is_user_key c.task.key ≡ true };
+    // Its script is that of the task that is seen: its passwords are hashed with the salts of the scenario.
+    ghost invariant = { λ c. courses.script c.task ≡ courses.script_of (courses.seen c.task) };
 }
 
 /// The request or attempt that an event is about.
@@ -133,13 +133,13 @@ fn ticket_after(waiting: Option<u64>, reply: Reply) -> Option<u64>
 }
 
 impl Client {
-    /// A client that looks up a user.
-    pub fn new(alloc: Global, key: Key) -> Client
-        requires { is_user_key key ≡ true }
-        ensures { result ≡ clients.begun key }
+    /// A client of this task.
+    pub fn new(alloc: Global, task: ClientTask) -> Client
+        requires { courses.script task ≡ courses.script_of (courses.seen task) }
+        ensures { result ≡ clients.begun (courses.seen task) }
     {
         Client {
-            task: NssTask::new(key),
+            task,
             leads: Vec::new(alloc),
             ticket: None,
             is_told: false,
@@ -147,16 +147,15 @@ impl Client {
         }
     }
 
-    #[tactic(auto, using(crate::proofs::Fitting::course_needs, crate::proofs::Fitting::replied_says_nothing, crate::proofs::Fitting::fetch_says_nothing))]
     /// What its task needs next. What is to be told counts as told from here on, and the client ends where nothing is needed.
     pub fn need(&mut self) -> Result<Need, Memory>
         ensures need { IfOk result (λ need. need ≡ clients.need_of self.old) }
         ensures asked { OnOk result (self.new ≡ clients.asked self.old) }
-        ensures users { IfOk result (λ need. clients.needs_users need ≡ true) }
-        ensures stays { IfOk result (λ need. awaits_reply need ≡ true → clients.need_of self.new ≡ need) }
-        ensures searches { IfOk result (λ need. clients.is_fetch need ≡ true → clients.need_of self.new ≡ need) }
+        ensures stays { IfOk result (λ need. is_saying need ≡ false → clients.need_of self.new ≡ need) }
+        ensures kind { IfOk result (λ need. is_saying need ≡ false → is_need_of_kind (key_at (courses.script_of self.new.task)) need ≡ true) }
+        ensures unchanged { OnErr result (self.new ≡ self.old) }
     {
-        let need = self.task.need()?;
+        let need = self.task.ask()?;
         match &need {
             Need::Say(_) => self.is_told = true,
             Need::End => self.is_over = true,
@@ -165,25 +164,34 @@ impl Client {
         Ok(need)
     }
 
-    #[tactic(auto, using(crate::proofs::Fitting::course_takes))]
     /// Takes the reply to its event about this number.
     pub fn replied(&mut self, number: Option<u64>, given: Given) -> Result<(), Memory>
         requires awaited { awaits_reply (clients.need_of self.old) ≡ true }
-        requires users { clients.is_user_found given.found ≡ true }
-        ensures { OnOk result (self.new ≡ clients.replied self.old number given) }
+        requires kind { fits_found (key_at (courses.script_of self.old.task)) given.found ≡ true }
+        ensures replied { OnOk result (self.new ≡ clients.replied self.old number given) }
+        ensures unchanged { OnErr result (self.new.task ≡ self.old.task) }
     {
         update_leads(&mut self.leads, number, given.reply)?;
         self.ticket = ticket_after(self.ticket, given.reply);
-        self.task.replied(given)
+        self.task.take_reply(given)
     }
 
-    /// Takes a server's answer.
+    /// Takes what its search at a server gave.
     pub fn fetched(&mut self, fetched: Fetched)
         requires awaited { answers_search (clients.need_of self.old) fetched ≡ true }
         requires told { is_out_of_memory fetched ≡ false }
         ensures { self.new ≡ clients.fetched self.old fetched }
     {
-        self.task.fetched(fetched);
+        self.task.take_fetched(fetched);
+    }
+
+    /// Takes what its bind at a server gave.
+    pub fn bound(&mut self, bound: Bound)
+        requires awaited { awaits_bind (clients.need_of self.old) ≡ true }
+        requires told { is_bind_out_of_memory bound ≡ false }
+        ensures { self.new ≡ clients.bound self.old bound }
+    {
+        self.task.take_bound(bound);
     }
 
     /// The requests that it leads.

@@ -4,7 +4,7 @@ ghost use Rattle.std.specs.Io.KnownBytes.{Appends};
 ghost use Rattle.sd_base.specs.Causes.{Rose};
 ghost use Rattle.sd_base.specs.Written.{AppendsFront};
 ghost use Rattle.sd_scenario.specs.Endings as endings;
-ghost use Rattle.sd_lines.specs.Faults as lines;
+ghost use Rattle.sd_layout.specs.Faults as lines;
 ghost use Rattle.sd_scenario.specs.Transcript as script;
 
 use crate::endings::{

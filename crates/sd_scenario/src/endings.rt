@@ -4,15 +4,16 @@ ghost use Rattle.std.specs.Io.KnownBytes.{Appends};
 ghost use Rattle.sd_base.specs.Causes.{Rose};
 ghost use Rattle.sd_base.specs.Written.{AppendsFront};
 ghost use Rattle.std.specs.Option.{option_copied, option_map_or};
-ghost use Rattle.sd_lines.specs.Faults.{first_bad_by, has_few_servers};
-ghost use Rattle.sd_lines.specs.Seen.{head_seen};
+ghost use Rattle.sd_layout.specs.Faults.{first_bad_by, has_few_servers};
+ghost use Rattle.sd_layout.specs.Blocks.{statements_of};
+ghost use Rattle.sd_layout.specs.Seen.{head_seen};
 ghost use Rattle.sd_scenario.specs.Endings as endings;
 ghost use Rattle.sd_scenario.specs.Transcript.{transcript_by};
 
 use crate::runs::{Printed, run};
 use sd_base::{Bytes, Memory, Sink, WriteFault, write_all};
 use sd_conf::Config;
-use sd_lines::{ConfigRead, Head, config_of, first_bad_behind, head_of};
+use sd_layout::{ConfigRead, Head, config_of, first_bad_behind, head_of};
 use sd_wire::fields::{push_bytes, push_number};
 use std::alloc::Global;
 
@@ -82,15 +83,15 @@ fn ending_of_run(printed: Printed) -> Ending
 fn ending_behind(alloc: Global, head: &Head<'_>, config: Config) -> Result<Ending, Memory>
     requires few { has_few_servers config ≡ true }
     requires room { head.now.number + option_map_or (λ bytes. length bytes + 1) (option_copied head.now.body) 0 < 2 ^ 33 }
-    ensures { IfOk result (λ ending. ending ≡ endings.ending_by_bad (first_bad_by (head_seen head.now) (Ok config)) (transcript_by (Ok config) (head_seen head.now).body)) }
+    ensures { IfOk result (λ ending. ending ≡ endings.ending_by_bad (first_bad_by (head_seen head.now) (Ok config)) (transcript_by (Ok config) (statements_of (head_seen head.now).number (head_seen head.now).body))) }
 {
     if let Some(number) = first_bad_behind(alloc, head, &config)? {
         return ending_at_line(alloc, number);
     }
-    Ok(ending_of_run(run(alloc, config, head.body)?))
+    Ok(ending_of_run(run(alloc, config, head.number, head.body)?))
 }
 
-#[tactic(auto, unfolding(sd_lines::specs::Faults::first_bad, crate::specs::Transcript::transcript))]
+#[tactic(auto, unfolding(sd_layout::specs::Faults::first_bad, crate::specs::Transcript::transcript))]
 /// The end of a scenario of this text: its lines are all checked before the first is carried out.
 pub fn ending_of(alloc: Global, text: &[u8]) -> Result<Ending, Memory>
     requires { length text.now < 2 ^ 32 }

@@ -8,8 +8,7 @@ pub mod endings;
 pub mod moves;
 pub mod runs;
 pub mod stop;
-#[cfg(test)]
-mod tests;
+pub mod task;
 pub mod world;
 
 pub use command::scenario;

@@ -1,23 +1,31 @@
 // How the clients of a scenario make their moves.
-ghost use Rattle.std.specs.Prelude.{◌≡◌, ℕ, ◌++◌, [], MatchResult, IfOk, OnOk, Ok, true, false};
-ghost use Rattle.sd_rules.specs.Keys.{is_user_key};
+ghost use Rattle.std.specs.Prelude.{◌≡◌, ℕ, ◌++◌, List, [], Some, MatchResult, IfOk, OnOk, Ok, true, false};
+ghost use Rattle.sd_rules.specs.declared.replies.Entry.{Entry};
+ghost use Rattle.sd_rules.specs.declared.tasks.Need.TheVariants as needs;
 ghost use Rattle.sd_rules.specs.Lookups.{is_fetched_of_kind};
-ghost use Rattle.sd_rules.specs.Scripts.{awaits_reply, is_out_of_memory};
+ghost use Rattle.sd_rules.specs.Scripts.{fits_found, is_need_of_kind, is_out_of_memory, is_bind_out_of_memory, is_saying, key_at};
+ghost use Rattle.sd_rules.specs.Steps as steps;
+ghost use Rattle.sd_core.specs.Sound.{found_fits};
 ghost use Rattle.sd_scenario.specs.Clients as clients;
-ghost use Rattle.sd_scenario.specs.Directory as directory;
-ghost use Rattle.sd_scenario.specs.Past.{is_of_users};
+ghost use Rattle.sd_scenario.specs.Courses as courses;
+ghost use Rattle.sd_directory.specs.Keeping as keeping;
+ghost use Rattle.sd_scenario.specs.Past.{IsKnown, KeepsKeys};
 ghost use Rattle.sd_scenario.specs.Prints as prints;
 ghost use Rattle.sd_scenario.specs.Stops.{Fails, Halts};
 ghost use Rattle.sd_scenario.specs.Tasks as tasks;
 ghost use Rattle.sd_scenario.specs.Transcript as script;
 
 use crate::client::{Client, about};
-use crate::directory::{Change, asked_of, looked_up, mode_of, put, take_out};
+use crate::directory::{Change, mode_of};
 use crate::stop::Stop;
-use sd_base::{Memory, Text, Texts};
+use sd_base::{Memory, Text};
+use sd_conf::Config;
 use sd_core::{Core, Look};
-use sd_lines::Mode;
-use sd_rules::{Event, Fetched, Given, Key, Need, Said, StepFault, User};
+use sd_directory::{put, put_all, take_out};
+use sd_ldap::DirEntry;
+use sd_provider::{bound_at, fetched_at};
+use sd_rules::{Bound, Event, Fetched, Given, Key, Need, Said, StepFault};
+use sd_stub::Mode;
 use sd_wire::fields::{push_bytes, push_number};
 use sd_wire::push_line;
 use std::alloc::Global;
@@ -26,11 +34,10 @@ use std::marker::Model;
 /// What surrounds the tasks of a scenario.
 #[derive(Drop)]
 pub struct Site {
-    users: Vec<User>,
+    config: Config,
+    entries: Vec<DirEntry>,
     changes: Vec<Change>,
-    kept_out: Texts,
     moment: u64,
-    pwfield: Text,
 }
 
 impl Model for Site {
@@ -40,22 +47,22 @@ impl Model for Site {
     ghost Value = { tasks.Site };
 
     ghost view = { λ s. record {
-      users = s.users.items;
+      config = s.config;
+      entries = s.entries.items;
       changes = reverse s.changes.items;
-      kept_out = s.kept_out;
       moment = s.moment;
-      pwfield = s.pwfield;
     } };
 }
 
 /// One step of the core.
-#[tactic(auto, using(crate::proofs::Fitting::users_steppable, crate::proofs::Fitting::users_found))]
+#[tactic(auto, using(crate::proofs::KnownLaws::made_keeps, crate::proofs::KnownLaws::keeps_itself))]
 pub fn step(core: &mut Core, now: u64, event: Event) -> Result<Given, Stop>
-    requires past { is_of_users core.old.past ≡ true }
-    requires event { clients.is_for_users event ≡ true }
-    ensures past { is_of_users core.new.past ≡ true }
-    ensures users { IfOk result (λ given. clients.is_user_found given.found ≡ true) }
+    requires { steps.is_steppable core.old.past event ≡ true }
     ensures done { MatchResult result (λ given. tasks.step core.old now event ≡ Ok (core.new, given)) (λ stop. Fails stop (tasks.step core.old now event)) }
+    ensures made { OnOk result (core.new ≡ steps.after core.old now event) }
+    ensures given { IfOk result (λ given. given ≡ steps.given core.old now event) }
+    ensures fits { IfOk result (λ given. found_fits core.old.past event given.found ≡ true) }
+    ensures keys { KeepsKeys core.old.past core.new.past }
 {
     match core.step(now, event) {
         Ok(given) => Ok(given),
@@ -68,9 +75,8 @@ pub fn step(core: &mut Core, now: u64, event: Event) -> Result<Given, Stop>
 
 /// One step of the core, whose reply nobody waits for.
 pub fn happen(core: &mut Core, now: u64, event: Event) -> Result<(), Stop>
-    requires past { is_of_users core.old.past ≡ true }
-    requires event { clients.is_for_users event ≡ true }
-    ensures past { is_of_users core.new.past ≡ true }
+    requires { steps.is_steppable core.old.past event ≡ true }
+    ensures keys { KeepsKeys core.old.past core.new.past }
     ensures done { MatchResult result (λ _. tasks.happened core.old now event ≡ Ok core.new) (λ stop. Fails stop (tasks.happened core.old now event)) }
 {
     step(core, now, event)?;
@@ -78,16 +84,15 @@ pub fn happen(core: &mut Core, now: u64, event: Event) -> Result<(), Stop>
 }
 
 impl Site {
-    /// A directory without entries whose servers are up, at moment 0. The names kept out are found by name alone.
-    pub fn new(alloc: Global, kept_out: Texts, pwfield: Text) -> Site
-        ensures { result ≡ record { users = []; changes = []; kept_out = kept_out; moment = 0; pwfield = pwfield } }
+    /// A directory without entries whose servers are up, at moment 0.
+    pub fn new(alloc: Global, config: Config) -> Site
+        ensures { result ≡ record { config = config; entries = []; changes = []; moment = 0 } }
     {
         Site {
-            users: Vec::new(alloc),
+            config,
+            entries: Vec::new(alloc),
             changes: Vec::new(alloc),
-            kept_out,
             moment: 0,
-            pwfield,
         }
     }
 
@@ -105,18 +110,32 @@ impl Site {
         self.moment = moment;
     }
 
-    /// Puts a user's entry.
-    pub fn put_user(&mut self, user: User) -> Result<(), Memory>
-        ensures { OnOk result (self.new ≡ record self.old { users = directory.put self.old.users user }) }
+    /// The configuration.
+    pub fn config(&self) -> &Config
+        ensures { result.now ≡ self.now.config }
     {
-        put(&mut self.users, user)
+        &self.config
     }
 
-    /// Takes out the entry of a user.
-    pub fn remove_user(&mut self, name: &Text)
-        ensures { self.new ≡ script.user_removed self.old name.now }
+    /// Puts an entry.
+    pub fn put(&mut self, entry: DirEntry) -> Result<(), Memory>
+        ensures { OnOk result (self.new ≡ record self.old { entries = keeping.put self.old.entries entry }) }
     {
-        take_out(&mut self.users, name);
+        put(&mut self.entries, entry)
+    }
+
+    /// Puts entries one after the other.
+    pub fn put_all(&mut self, entries: &[DirEntry]) -> Result<(), Memory>
+        ensures { OnOk result (self.new ≡ record self.old { entries = keeping.put_all self.old.entries entries.now }) }
+    {
+        put_all(&mut self.entries, entries)
+    }
+
+    /// Takes out the entry of a DN.
+    pub fn take_out(&mut self, dn: &Text)
+        ensures { self.new ≡ record self.old { entries = keeping.removed self.old.entries dn.now } }
+    {
+        take_out(&mut self.entries, dn);
     }
 
     /// Lets a server behave so from here on.
@@ -127,16 +146,29 @@ impl Site {
         Ok(())
     }
 
-    /// What the directory answers at a server.
-    #[tactic(auto, using(crate::proofs::Fitting::answer_of_kind, crate::proofs::Fitting::answer_in_memory))]
-    fn answer_at(&self, server: u32, key: &Key) -> Result<Fetched, Memory>
-        requires { is_user_key key.now ≡ true }
-        ensures answer { IfOk result (λ fetched. fetched ≡ tasks.answer_at self.now server key.now) }
+    /// What the lookup of a key at a server comes to.
+    fn fetched_at(&self, alloc: Global, server: u32, key: &Key) -> Result<Fetched, Memory>
+        ensures answer { IfOk result (λ fetched. fetched ≡ tasks.fetched_at self.now server key.now) }
         ensures kind { IfOk result (λ fetched. is_fetched_of_kind key.now fetched ≡ true) }
         ensures memory { IfOk result (λ fetched. is_out_of_memory fetched ≡ false) }
     {
-        let fetched = looked_up(self.kept_out.items(), self.users.as_slice(), key)?;
-        Ok(asked_of(mode_of(self.changes.as_slice(), server), fetched))
+        let mode = mode_of(self.changes.as_slice(), server);
+        fetched_at(alloc, mode, &self.config, self.entries.as_slice(), key)
+    }
+
+    /// What a bind at a server comes to.
+    fn bound_at(
+        &self,
+        alloc: Global,
+        server: u32,
+        dn: &Text,
+        password: &Text,
+    ) -> Result<Bound, Memory>
+        ensures answer { IfOk result (λ bound. bound ≡ tasks.bound_at self.now server dn.now password.now) }
+        ensures memory { IfOk result (λ bound. is_bind_out_of_memory bound ≡ false) }
+    {
+        let mode = mode_of(self.changes.as_slice(), server);
+        bound_at(alloc, mode, self.entries.as_slice(), dn, password)
     }
 }
 
@@ -155,7 +187,8 @@ fn push_answer(
     push_bytes(out, b"\n")
 }
 
-/// Carries out what needs no event: the directory is asked, or an answer is printed.
+/// Carries out what needs no event: a server is asked, or an answer is printed.
+#[tactic(auto, using(crate::proofs::ReplyLaws::fetched_known, crate::proofs::ReplyLaws::bound_known))]
 fn settle_by(
     alloc: Global,
     site: &Site,
@@ -164,22 +197,28 @@ fn settle_by(
     out: &mut Vec<u8>,
     need: Need,
 ) -> Result<(), Memory>
-    requires users { clients.needs_users need ≡ true }
-    requires searches { clients.is_fetch need ≡ true → clients.need_of client.old ≡ need }
-    ensures { OnOk result (tasks.settled_by site.now number (client.old, out.old.items) need ≡ (client.new, out.new.items)) }
+    requires stays { is_saying need ≡ false → clients.need_of client.old ≡ need }
+    ensures done { OnOk result (tasks.settled_by site.now number (client.old, out.old.items) need ≡ (client.new, out.new.items)) }
+    ensures known { (past : List Entry) → IsKnown past client.old.task → IsKnown past client.new.task }
 {
     match need {
         Need::Fetch(server, key) => {
-            let fetched = site.answer_at(server, &key)?;
+            let fetched = site.fetched_at(alloc, server, &key)?;
             client.fetched(fetched);
             Ok(())
         }
-        Need::Say(said) => push_answer(alloc, out, &site.pwfield, number, &said),
+        Need::Bind(server, dn, password) => {
+            let bound = site.bound_at(alloc, server, &dn, &password)?;
+            client.bound(bound);
+            Ok(())
+        }
+        Need::Say(said) => push_answer(alloc, out, &site.config.pwfield, number, &said),
         _ => Ok(()),
     }
 }
 
 /// Asks a client's task for its need, and carries it out where it needs no event.
+#[tactic(auto, using(crate::proofs::ReplyLaws::told_known))]
 fn settle(
     alloc: Global,
     site: &Site,
@@ -187,13 +226,29 @@ fn settle(
     client: &mut Client,
     out: &mut Vec<u8>,
 ) -> Result<(), Memory>
-    ensures { OnOk result (tasks.settled site.now number (client.old, out.old.items) ≡ (client.new, out.new.items)) }
+    ensures done { OnOk result (tasks.settled site.now number (client.old, out.old.items) ≡ (client.new, out.new.items)) }
+    ensures known { (past : List Entry) → IsKnown past client.old.task → IsKnown past client.new.task }
 {
     let need = client.need()?;
     settle_by(alloc, site, number, client, out, need)
 }
 
+/// One step of the core, by the event that a client's task needs.
+fn step_of(core: &mut Core, now: u64, client: &Client, event: Event) -> Result<Given, Stop>
+    requires event { courses.event_of (clients.need_of client.now) ≡ Some event }
+    requires kind { is_need_of_kind (key_at (courses.script_of client.now.task)) (clients.need_of client.now) ≡ true }
+    requires known { IsKnown core.old.past client.now.task }
+    ensures done { MatchResult result (λ given. tasks.step core.old now event ≡ Ok (core.new, given)) (λ stop. Fails stop (tasks.step core.old now event)) }
+    ensures found { IfOk result (λ given. fits_found (key_at (courses.script_of client.now.task)) given.found ≡ true) }
+    ensures known { IfOk result (λ given. IsKnown core.new.past (courses.replied client.now.task given)) }
+    ensures still { IsKnown core.new.past client.now.task }
+    ensures keys { KeepsKeys core.old.past core.new.past }
+{
+    step(core, now, event)
+}
+
 /// Makes the event that a client's task needs.
+#[tactic(auto, using(crate::proofs::ReplyLaws::event_awaits))]
 fn step_for(
     site: &Site,
     core: &mut Core,
@@ -201,21 +256,23 @@ fn step_for(
     out: &Vec<u8>,
     event: Event,
 ) -> Result<(), Stop>
-    requires awaited { awaits_reply (clients.need_of client.old) ≡ true }
-    requires past { is_of_users core.old.past ≡ true }
-    requires event { clients.is_for_users event ≡ true }
-    ensures past { is_of_users core.new.past ≡ true }
+    requires event { courses.event_of (clients.need_of client.old) ≡ Some event }
+    requires kind { is_need_of_kind (key_at (courses.script_of client.old.task)) (clients.need_of client.old) ≡ true }
+    requires known { IsKnown core.old.past client.old.task }
+    ensures known { IsKnown core.new.past client.new.task }
+    ensures keys { KeepsKeys core.old.past core.new.past }
     ensures done { let done = tasks.stepped site.now (tasks.act core.old client.old out.now.items) event in MatchResult result
         (λ _. done ≡ Ok (tasks.act core.new client.new out.now.items))
         (λ stop. Halts stop done out.now.items) }
 {
     let number = about(&event);
-    let given = step(core, site.moment, event)?;
+    let given = step_of(core, site.moment, client, event)?;
     client.replied(number, given)?;
     Ok(())
 }
 
 /// Carries out what a client's task needs: its event, or what needs none.
+#[tactic(auto, using(crate::proofs::KnownLaws::keeps_itself))]
 fn act(
     alloc: Global,
     site: &Site,
@@ -225,11 +282,11 @@ fn act(
     out: &mut Vec<u8>,
     need: Need,
 ) -> Result<(), Stop>
-    requires users { clients.needs_users need ≡ true }
-    requires awaited { awaits_reply need ≡ true → clients.need_of client.old ≡ need }
-    requires searches { clients.is_fetch need ≡ true → clients.need_of client.old ≡ need }
-    requires past { is_of_users core.old.past ≡ true }
-    ensures past { is_of_users core.new.past ≡ true }
+    requires stays { is_saying need ≡ false → clients.need_of client.old ≡ need }
+    requires kind { is_saying need ≡ false → is_need_of_kind (key_at (courses.script_of client.old.task)) need ≡ true }
+    requires known { IsKnown core.old.past client.old.task }
+    ensures known { IsKnown core.new.past client.new.task }
+    ensures keys { KeepsKeys core.old.past core.new.past }
     ensures done { let done = tasks.acted_by site.now number (tasks.act core.old client.old out.old.items) need in MatchResult result
         (λ _. done ≡ Ok (tasks.act core.new client.new out.new.items))
         (λ stop. Halts stop done out.new.items) }
@@ -244,7 +301,23 @@ fn act(
     }
 }
 
+/// Carries out twice what a client's task needs, where it needs no event.
+fn settle_twice(
+    alloc: Global,
+    site: &Site,
+    number: u64,
+    client: &mut Client,
+    out: &mut Vec<u8>,
+) -> Result<(), Memory>
+    ensures done { OnOk result (tasks.settled site.now number (tasks.settled site.now number (client.old, out.old.items)) ≡ (client.new, out.new.items)) }
+    ensures known { (past : List Entry) → IsKnown past client.old.task → IsKnown past client.new.task }
+{
+    settle(alloc, site, number, client, out)?;
+    settle(alloc, site, number, client, out)
+}
+
 /// Makes one move of the client of a task.
+#[tactic(auto, using(crate::proofs::ReplyLaws::told_known, crate::proofs::KnownLaws::keeps_itself))]
 pub fn make_move(
     alloc: Global,
     site: &Site,
@@ -253,16 +326,16 @@ pub fn make_move(
     client: &mut Client,
     out: &mut Vec<u8>,
 ) -> Result<(), Stop>
-    requires past { is_of_users core.old.past ≡ true }
-    ensures past { is_of_users core.new.past ≡ true }
+    requires known { IsKnown core.old.past client.old.task }
+    ensures known { IsKnown core.new.past client.new.task }
+    ensures keys { KeepsKeys core.old.past core.new.past }
     ensures done { let done = tasks.moved site.now number (tasks.act core.old client.old out.old.items) in MatchResult result
         (λ _. done ≡ Ok (tasks.act core.new client.new out.new.items))
         (λ stop. Halts stop done out.new.items) }
 {
     let need = client.need()?;
     act(alloc, site, number, core, client, out, need)?;
-    settle(alloc, site, number, client, out)?;
-    settle(alloc, site, number, client, out)?;
+    settle_twice(alloc, site, number, client, out)?;
     Ok(())
 }
 
@@ -285,10 +358,10 @@ pub fn is_ready(core: &Core, client: &Client) -> bool
     !is_waiting(core, client.ticket())
 }
 
+#[tactic(auto, using(crate::proofs::KnownLaws::keeps_itself, crate::proofs::KnownLaws::keeps_through))]
 /// Makes an Abandon for each of these numbers, in order.
 fn abandon_all(core: &mut Core, now: u64, numbers: &[u64]) -> Result<(), Stop>
-    requires past { is_of_users core.old.past ≡ true }
-    ensures past { is_of_users core.new.past ≡ true }
+    ensures keys { KeepsKeys core.old.past core.new.past }
     ensures done { MatchResult result (λ _. tasks.abandoned numbers.now core.old now ≡ Ok core.new) (λ stop. Fails stop (tasks.abandoned numbers.now core.old now)) }
 {
     for number in numbers {
@@ -297,9 +370,9 @@ fn abandon_all(core: &mut Core, now: u64, numbers: &[u64]) -> Result<(), Stop>
     Ok(())
 }
 
+#[tactic(auto, using(crate::proofs::KnownLaws::keeps_itself))]
 fn leave_ticket(core: &mut Core, now: u64, ticket: Option<u64>) -> Result<(), Stop>
-    requires past { is_of_users core.old.past ≡ true }
-    ensures past { is_of_users core.new.past ≡ true }
+    ensures keys { KeepsKeys core.old.past core.new.past }
     ensures done { MatchResult result (λ _. tasks.ticket_left ticket core.old now ≡ Ok core.new) (λ stop. Fails stop (tasks.ticket_left ticket core.old now)) }
 {
     match ticket {
@@ -308,10 +381,10 @@ fn leave_ticket(core: &mut Core, now: u64, ticket: Option<u64>) -> Result<(), St
     }
 }
 
+#[tactic(auto, using(crate::proofs::KnownLaws::keeps_through))]
 /// Gives back what a client leads and waits for.
 fn give_back(core: &mut Core, now: u64, client: &Client) -> Result<(), Stop>
-    requires past { is_of_users core.old.past ≡ true }
-    ensures past { is_of_users core.new.past ≡ true }
+    ensures keys { KeepsKeys core.old.past core.new.past }
     ensures done { MatchResult result (λ _. tasks.left_by client.now core.old now ≡ Ok core.new) (λ stop. Fails stop (tasks.left_by client.now core.old now)) }
 {
     abandon_all(core, now, client.leads())?;
@@ -328,6 +401,7 @@ fn push_left(alloc: Global, out: &mut Vec<u8>, is_told: bool, number: u64) -> Re
     push_bytes(out, b" left\n")
 }
 
+#[tactic(auto, using(crate::proofs::KnownLaws::known_on))]
 /// Lets the client of a task leave.
 pub fn leave(
     alloc: Global,
@@ -337,8 +411,8 @@ pub fn leave(
     client: &mut Client,
     out: &mut Vec<u8>,
 ) -> Result<(), Stop>
-    requires past { is_of_users core.old.past ≡ true }
-    ensures past { is_of_users core.new.past ≡ true }
+    ensures task { client.new.task ≡ client.old.task }
+    ensures keys { KeepsKeys core.old.past core.new.past }
     ensures done { let done = tasks.left site.now number (tasks.act core.old client.old out.old.items) in MatchResult result
         (λ _. done ≡ Ok (tasks.act core.new client.new out.new.items))
         (λ stop. Halts stop done out.new.items) }

@@ -1,7 +1,8 @@
 // A scenario's lines, carried out one after the other.
-ghost use Rattle.std.specs.Prelude.{◌≡◌, ◌<◌, ◌^◌, ◌++◌, length, IfOk, OnOk, Ok, not, true};
-ghost use Rattle.std.specs.Option.{option_copied};
-ghost use Rattle.sd_lines.specs.Faults.{has_few_servers};
+ghost use Rattle.std.specs.Prelude.{◌≡◌, ◌+◌, ◌<◌, ◌^◌, ◌++◌, length, IfOk, OnOk, Ok, not, true};
+ghost use Rattle.std.specs.Option.{option_copied, option_map_or};
+ghost use Rattle.sd_layout.specs.Blocks.{statements_of};
+ghost use Rattle.sd_layout.specs.Faults.{has_few_servers};
 ghost use Rattle.sd_lines.specs.Words as words;
 ghost use Rattle.sd_scenario.specs.Transcript as script;
 
@@ -9,7 +10,7 @@ use crate::stop::Stop;
 use crate::world::World;
 use sd_base::{Bytes, Memory};
 use sd_conf::Config;
-use sd_lines::{cut, line_of};
+use sd_layout::first_statement;
 use std::alloc::Global;
 
 /// What a scenario prints.
@@ -20,16 +21,22 @@ pub struct Printed {
     pub is_full: bool,
 }
 
-/// Does the lines, and prints what they print. Whether they were all done.
-fn do_lines(alloc: Global, world: &mut World, body: Option<&[u8]>) -> Result<bool, Memory>
-    ensures { IfOk result (λ whole. script.transcript_on world.old (words.pieces_in 10 (option_copied body.entry))
+/// Does the lines, of which the first has the number `first`, and prints what they print. Whether they were all done.
+fn do_lines(
+    alloc: Global,
+    world: &mut World,
+    first: u64,
+    body: Option<&[u8]>,
+) -> Result<bool, Memory>
+    requires { first + option_map_or (λ bytes. length bytes + 1) (option_copied body) 0 < 2 ^ 33 }
+    ensures { IfOk result (λ whole. script.transcript_on world.old (statements_of first (words.pieces_in 10 (option_copied body.entry)))
         ≡ record { text = world.new.printed; is_full = not whole }) }
 {
+    let mut number = first;
     let mut left = body;
     while let Some(bytes) = left {
-        let (bytes, rest) = cut(b'\n', bytes);
-        let line = line_of(alloc, bytes)?;
-        match world.do_line(&line) {
+        let next = first_statement(alloc, number, bytes)?;
+        match world.do_line(&next.statement.line) {
             Ok(()) => {}
             Err(Stop::Full(number)) => {
                 world.print_full(number)?;
@@ -37,19 +44,26 @@ fn do_lines(alloc: Global, world: &mut World, body: Option<&[u8]>) -> Result<boo
             }
             Err(Stop::Memory) => return Err(Memory),
         }
-        left = rest;
+        number = next.number;
+        left = next.rest;
     }
     Ok(true)
 }
 
-/// Carries out the lines of a scenario of this configuration.
-pub fn run(alloc: Global, config: Config, body: Option<&[u8]>) -> Result<Printed, Memory>
-    requires { has_few_servers config ≡ true }
-    ensures { IfOk result (λ printed. let transcript = script.transcript_by (Ok config) (words.pieces_in 10 (option_copied body.entry)) in
+/// Carries out the lines of a scenario of this configuration; the first has the number `first`.
+pub fn run(
+    alloc: Global,
+    config: Config,
+    first: u64,
+    body: Option<&[u8]>,
+) -> Result<Printed, Memory>
+    requires few { has_few_servers config ≡ true }
+    requires room { first + option_map_or (λ bytes. length bytes + 1) (option_copied body) 0 < 2 ^ 33 }
+    ensures { IfOk result (λ printed. let transcript = script.transcript_by (Ok config) (statements_of first (words.pieces_in 10 (option_copied body.entry))) in
         (printed.text ≡ transcript.text) × (printed.is_full ≡ transcript.is_full)) }
 {
     let mut world = World::new(alloc, config)?;
-    let whole = do_lines(alloc, &mut world, body)?;
+    let whole = do_lines(alloc, &mut world, first, body)?;
     Ok(Printed {
         text: Bytes::from_bytes(alloc, world.printed())?,
         is_full: !whole,

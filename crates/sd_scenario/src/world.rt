@@ -1,24 +1,29 @@
 // What a scenario works on, and what its lines do to it.
 ghost use Rattle.std.specs.Prelude.{◌≡◌, ℕ, ◌+◌, ◌-◌, ◌<◌, ◌≤◌, ◌^◌, ◌++◌, [], length, slice_get, MatchResult, IfOk, OnOk, Ok, reverse, true, false};
 ghost use Rattle.sd_rules.specs.declared.events.Event.TheVariants as events;
-ghost use Rattle.sd_rules.specs.Keys.{is_user_key};
+ghost use Rattle.sd_rules.specs.Lookups.{is_client_key};
+ghost use Rattle.sd_rules.specs.Steps.{is_steppable};
+ghost use Rattle.sd_directory.specs.Entries.{dn_of};
 ghost use Rattle.sd_conf.specs.declared.config.Config.{Config};
-ghost use Rattle.sd_lines.specs.Faults.{has_few_servers};
-ghost use Rattle.sd_scenario.specs.Clients as clients;
-ghost use Rattle.sd_scenario.specs.Past.{is_of_users};
+ghost use Rattle.sd_layout.specs.Faults.{has_few_servers};
+ghost use Rattle.sd_directory.specs.Keeping as keeping;
+ghost use Rattle.sd_scenario.specs.Courses as courses;
+ghost use Rattle.sd_scenario.specs.Past.{names};
 ghost use Rattle.sd_scenario.specs.Prints as prints;
 ghost use Rattle.sd_scenario.specs.Stops.{Halts};
 ghost use Rattle.sd_scenario.specs.Tasks as tasks;
 ghost use Rattle.sd_scenario.specs.Transcript as script;
 
 use crate::client::Client;
-use crate::directory::user_made;
 use crate::moves::{Site, happen, is_ready, leave, make_move};
 use crate::stop::Stop;
+use crate::task::ClientTask;
 use sd_base::{Copied, Memory, Text};
 use sd_conf::Config;
 use sd_core::Core;
-use sd_lines::Line;
+use sd_directory::{dn_of, group_entry, host_entry, rule_entry, service_entry, user_entry};
+use sd_ldap::DirEntry;
+use sd_lines::{Kind, Line};
 use sd_rules::{Entry, Event, Key, What};
 use sd_wire::fields::{push_bytes, push_numbered};
 use sd_wire::push_entry;
@@ -39,8 +44,7 @@ pub struct World {
 }
 
 impl Model for World {
-    ghost use Rattle.std.specs.Prelude.{◌≡◌, true};
-    ghost use Rattle.sd_scenario.specs.Past.{is_of_users};
+    ghost use Rattle.sd_scenario.specs.Past.{AreKnown};
     ghost use Rattle.sd_scenario.specs.Tasks as tasks;
 
     ghost Value = { tasks.World };
@@ -54,7 +58,7 @@ impl Model for World {
       printed = w.out.items;
     } };
 
-    ghost invariant = { λ w. is_of_users w.core.past ≡ true };
+    ghost invariant = { λ w. AreKnown w.core.past w.clients.items };
 }
 
 /// Appends the lines of a journal.
@@ -89,17 +93,18 @@ fn first_ready(core: &Core, clients: &[Client]) -> usize
 }
 
 impl World {
+    #[tactic(auto, using(crate::proofs::KnownLaws::none_known))]
     /// Where a scenario of this configuration begins.
     pub fn new(alloc: Global, config: Config) -> Result<World, Memory>
         requires { has_few_servers config ≡ true }
         ensures { IfOk result (λ world. world ≡ script.start config) }
     {
-        let kept_out = config.settings.filter_users.copy()?;
         let limit = config.settings.journal_limit;
+        let settings = config.settings.copy()?;
         Ok(World {
             alloc,
-            core: Core::open(alloc, config.settings),
-            site: Site::new(alloc, kept_out, config.pwfield),
+            core: Core::open(alloc, settings),
+            site: Site::new(alloc, config),
             clients: Vec::new(alloc),
             limit,
             is_held: false,
@@ -130,6 +135,7 @@ impl World {
         }
     }
 
+    #[tactic(auto, using(crate::proofs::KnownLaws::known_at, crate::proofs::KnownLaws::known_with))]
     /// The client in this place, which is there, makes a move.
     fn move_client(&mut self, place: usize) -> Result<(), Stop>
         requires { place < length self.old.clients }
@@ -211,19 +217,55 @@ impl World {
         self.run_from(last)
     }
 
-    /// Makes a task that looks up a key; outside a hold it runs.
-    fn look_up(&mut self, key: Key) -> Result<(), Stop>
-        requires { is_user_key key ≡ true }
-        ensures done { let done = script.looked_up_by self.old key in MatchResult result (λ _. done ≡ Ok self.new) (λ stop. Halts stop done self.new.printed) }
+    /// Adds the client of a task.
+    #[tactic(auto, using(crate::proofs::KnownLaws::known_task))]
+    fn add_client(&mut self, task: ClientTask) -> Result<(), Memory>
+        requires script { courses.script task ≡ courses.script_of (courses.seen task) }
+        requires begun { names (courses.seen task) ≡ [] }
+        ensures { OnOk result (self.new ≡ script.client_added self.old (courses.seen task)) }
+    {
+        let client = Client::new(self.alloc, task);
+        self.clients.push(client)?;
+        Ok(())
+    }
+
+    /// Makes a task; outside a hold it runs.
+    fn make_task(&mut self, task: ClientTask) -> Result<(), Stop>
+        requires script { courses.script task ≡ courses.script_of (courses.seen task) }
+        requires begun { names (courses.seen task) ≡ [] }
+        ensures done { let done = script.task_made self.old (courses.seen task) in MatchResult result (λ _. done ≡ Ok self.new) (λ stop. Halts stop done self.new.printed) }
     {
         let place = self.clients.len();
-        let client = Client::new(self.alloc, key);
-        if self.clients.push(client).is_err() {
-            return Err(Stop::Memory);
-        }
+        self.add_client(task)?;
         self.run_unless_held(place)
     }
 
+    /// Makes a task that looks up a key.
+    fn look_up(&mut self, key: Key) -> Result<(), Stop>
+        requires { is_client_key key ≡ true }
+        ensures done { let done = script.task_made self.old (courses.lookup key) in MatchResult result (λ _. done ≡ Ok self.new) (λ stop. Halts stop done self.new.printed) }
+    {
+        self.make_task(ClientTask::look_up(key))
+    }
+
+    /// Makes a task that logs a user in.
+    #[tactic(auto, using(crate::proofs::ReplyLaws::login_names_nothing))]
+    fn log_in(&mut self, user: Text, password: Text) -> Result<(), Stop>
+        ensures done { let done = script.task_made self.old (courses.login (script.login_words self.old user password)) in MatchResult result (λ _. done ≡ Ok self.new) (λ stop. Halts stop done self.new.printed) }
+    {
+        let stores = self.site.config().settings.cache_credentials;
+        self.make_task(ClientTask::log_in(user, password, stores))
+    }
+
+    /// Makes a task that checks an account.
+    fn check(&mut self, user: Text, service: Text) -> Result<(), Stop>
+        ensures done { let done = script.task_made self.old (courses.check (record { user = user; service = service; mode = self.old.site.config.settings.access })) in MatchResult result (λ _. done ≡ Ok self.new) (λ stop. Halts stop done self.new.printed) }
+    {
+        let mode = self.site.config().settings.access;
+        self.make_task(ClientTask::check(user, service, mode))
+    }
+
+    #[tactic(auto, using(crate::proofs::KnownLaws::known_at, crate::proofs::KnownLaws::known_left))]
     /// The client in this place, which is there, leaves.
     fn let_leave(&mut self, place: usize) -> Result<(), Stop>
         requires { place < length self.old.clients }
@@ -258,19 +300,36 @@ impl World {
         self.let_leave(place)
     }
 
+    #[tactic(auto, using(crate::proofs::KnownLaws::all_known_on))]
     /// An event happens at once.
     fn happen(&mut self, event: Event) -> Result<(), Stop>
-        requires users { clients.is_for_users event ≡ true }
+        requires { is_steppable self.old.daemon.past event ≡ true }
         ensures done { let done = script.event_happened self.old event in MatchResult result (λ _. done ≡ Ok self.new) (λ stop. Halts stop done self.new.printed) }
     {
         happen(&mut self.core, self.site.moment(), event)
     }
 
-    fn put_user(&mut self, name: &Text, uid: u32, gid: u32) -> Result<(), Memory>
-        ensures { OnOk result (self.new ≡ script.with_site self.old (script.user_put self.old.site name.now uid gid)) }
+    /// Puts an entry.
+    fn put(&mut self, entry: DirEntry) -> Result<(), Memory>
+        ensures { OnOk result (self.new ≡ script.entry_put self.old entry) }
     {
-        let user = user_made(self.alloc, name, uid, gid)?;
-        self.site.put_user(user)
+        self.site.put(entry)
+    }
+
+    /// Puts entries one after the other.
+    fn put_all(&mut self, entries: &[DirEntry]) -> Result<(), Memory>
+        ensures { OnOk result (self.new ≡ script.with_entries self.old (keeping.put_all self.old.site.entries entries.now)) }
+    {
+        self.site.put_all(entries)
+    }
+
+    /// Takes out the entry of a kind and a name.
+    fn remove(&mut self, kind: Kind, name: &Text) -> Result<(), Memory>
+        ensures { OnOk result (self.new ≡ script.entry_removed self.old (dn_of self.old.site.config.base kind name.now)) }
+    {
+        let dn = dn_of(self.alloc, &self.site.config().base, kind, name)?;
+        self.site.take_out(&dn);
+        Ok(())
     }
 
     fn print_journal(&mut self) -> Result<(), Memory>
@@ -306,18 +365,50 @@ impl World {
         }
     }
 
+    /// A line that puts an entry.
+    fn do_entry_line(&mut self, line: &Line) -> Result<(), Memory>
+        ensures { OnOk result (script.entry_line_done self.old line.now ≡ self.new) }
+    {
+        let base = &self.site.config().base;
+        let entry = match line {
+            Line::User(user) => user_entry(self.alloc, base, user)?,
+            Line::Group(group) => group_entry(self.alloc, base, group)?,
+            Line::Host(host) => host_entry(self.alloc, base, host)?,
+            Line::Service(service) => service_entry(self.alloc, base, service)?,
+            Line::Rule(rule) => rule_entry(self.alloc, base, rule)?,
+            _ => return Ok(()),
+        };
+        self.put(entry)
+    }
+
     /// A line about the directory, its servers or the moment.
-    fn do_directory_line(&mut self, line: &Line) -> Result<(), Stop>
-        ensures done { let done = script.directory_line_done self.old line.now in MatchResult result (λ _. done ≡ Ok self.new) (λ stop. Halts stop done self.new.printed) }
+    fn do_directory_line(&mut self, line: &Line) -> Result<(), Memory>
+        ensures { OnOk result (script.directory_line_done self.old line.now ≡ self.new) }
     {
         match line {
             Line::At(moment) => self.site.set_moment(*moment),
-            Line::User(name, uid, gid) => self.put_user(name, *uid, *gid)?,
-            Line::RemoveUser(name) => self.site.remove_user(name),
+            Line::Remove(kind, name) => self.remove(*kind, name)?,
+            Line::Ldif(entries) => self.put_all(entries.items())?,
             Line::Server(server, mode) => self.site.change_server(*server, *mode)?,
-            _ => {}
+            _ => self.do_entry_line(line)?,
         }
         Ok(())
+    }
+
+    /// A line that makes a task.
+    fn do_task_line(&mut self, line: &Line) -> Result<(), Stop>
+        ensures done { let done = script.task_line_done self.old line.now in MatchResult result (λ _. done ≡ Ok self.new) (λ stop. Halts stop done self.new.printed) }
+    {
+        match line {
+            Line::GetUser(name) => self.look_up(Key::User(name.copy()?)),
+            Line::GetUid(uid) => self.look_up(Key::Uid(*uid)),
+            Line::GetGroup(name) => self.look_up(Key::Group(name.copy()?)),
+            Line::GetGid(gid) => self.look_up(Key::Gid(*gid)),
+            Line::GroupsOf(name) => self.look_up(Key::GroupsOf(name.copy()?)),
+            Line::Login(user, password) => self.log_in(user.copy()?, password.copy()?),
+            Line::Access(user, service) => self.check(user.copy()?, service.copy()?),
+            _ => Ok(()),
+        }
     }
 
     /// Does what a line says.
@@ -325,11 +416,6 @@ impl World {
         ensures done { let done = script.line_done self.old line.now in MatchResult result (λ _. done ≡ Ok self.new) (λ stop. Halts stop done self.new.printed) }
     {
         match line {
-            Line::GetUser(name) => {
-                let name = name.copy()?;
-                self.look_up(Key::User(name))
-            }
-            Line::GetUid(uid) => self.look_up(Key::Uid(*uid)),
             Line::Void(what) => self.void(what),
             Line::Offline => self.happen(Event::Offline),
             Line::Online => self.happen(Event::Online),
@@ -337,8 +423,18 @@ impl World {
                 self.print_journal()?;
                 Ok(())
             }
+            Line::GetUser(_)
+            | Line::GetUid(_)
+            | Line::GetGroup(_)
+            | Line::GetGid(_)
+            | Line::GroupsOf(_)
+            | Line::Login(_, _)
+            | Line::Access(_, _) => self.do_task_line(line),
             Line::Hold | Line::Go | Line::Step(_, _) | Line::Abandon(_) => self.do_held_line(line),
-            _ => self.do_directory_line(line),
+            _ => {
+                self.do_directory_line(line)?;
+                Ok(())
+            }
         }
     }
 }

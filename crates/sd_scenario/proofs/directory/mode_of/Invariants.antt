@@ -1,5 +1,5 @@
 use Rattle.std.proofs.Common.{◌≡◌, take, reverse}
-use Rattle.sd_scenario.specs.Directory as directory
+use Rattle.sd_scenario.specs.Modes as directory
 use Rattle.sd_scenario.proofs.directory.mode_of.Given as goal
 
 -- the earlier changes decide

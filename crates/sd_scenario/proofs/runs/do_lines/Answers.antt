@@ -1,5 +1,6 @@
 use Rattle.std.proofs.Common.{◌≡◌, ◌∷◌, ◌++◌, ap}
 use Rattle.std.specs.Option.{option_copied}
+use Rattle.sd_layout.specs.Blocks.{statements_of}
 use Rattle.sd_lines.specs.Words as words
 use Rattle.sd_scenario.specs.Prints.{full_line}
 use Rattle.sd_scenario.specs.Tasks.{World}
@@ -9,7 +10,7 @@ use Rattle.sd_scenario.proofs.runs.do_lines.Goals as goal
 pub returns-in-Err-Full : goal.returns-in-Err-Full
 returns-in-Err-Full c =
     let done = rw c.in-Err-Full.field-0-is at c.in-Err-Full.ensures.done in
-    let begins : words.pieces_in 10 (option_copied c.loop-left.left) ≡ c.cut.result.0.now ∷ words.pieces_in 10 (option_copied c.cut.result.1) = rw c.in-Some.is c.cut.ensures.pieces in
     let printed = ap (λ (w : World). w.printed) c.in_ok-print_full-in-Err-Full.ensures in
     let ended : c.print_full.new.self.printed ≡ c.do_line.new.self.printed ++ full_line c.in-Err-Full.number = cc (c.in-Err-Full.number-is, printed) in
-    full_end _ c.args.world.now _ _ _ _ _ _ (words.pieces_in 10 (option_copied c.args.body)) _ c.in_ok-line.ensures done ended begins c.loop-left.invariant
+    let begins : statements_of c.loop-left.number (words.pieces_in 10 (option_copied c.loop-left.left)) ≡ c.in_ok-next.next.statement ∷ statements_of c.in_ok-next.next.number (words.pieces_in 10 (option_copied c.in_ok-next.next.rest)) = rw c.in-Some.is c.in_ok-next.ensures.told in
+    full_end _ c.args.world.now _ _ _ _ _ (statements_of c.args.first (words.pieces_in 10 (option_copied c.args.body))) _ done ended begins c.loop-left.invariant.told

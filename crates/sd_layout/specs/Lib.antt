@@ -1,0 +1,5 @@
+pub mod Blocks
+pub mod Head
+pub mod Faults
+pub mod Laws
+pub mod Seen
