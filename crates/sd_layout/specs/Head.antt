@@ -92,7 +92,7 @@ settings_from n o (l ∷ ls) =
 
 -- ---- the head
 
--- the configuration where a scenario gives none: six lines, none of which is refused
+-- the configuration where a scenario gives none: seven lines, none of which is refused
 abbrev pub default_text : List ℕ
 default_text = codes "[sssd]\ndomains = test\n[domain/test]\nid_provider = ldap\nldap_uri = ldap://s0\nldap_search_base = dc=test\nipa_hostname = client.test\n"
 
