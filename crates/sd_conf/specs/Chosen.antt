@@ -12,7 +12,8 @@ use Rattle.sd_conf.specs.declared.values.Provider.{Provider}
 use Rattle.sd_conf.specs.declared.values.Provider.TheVariants as providers
 use Rattle.sd_conf.specs.declared.servers.Server.{Server}
 use Rattle.sd_conf.specs.declared.choices.Choices.{Choices}
-use Rattle.sd_conf.specs.Texts.{items_of, number_of, flag_of}
+use Rattle.sd_pieces.specs.Digits.{number_of}
+use Rattle.sd_conf.specs.Texts.{items_of, flag_of}
 use Rattle.sd_conf.specs.Lines.{Setting, settings_seen, or_else}
 use Rattle.sd_conf.specs.Options.{line_of, all_options, is_section, is_line_of, is_known}
 use Rattle.sd_conf.specs.Values.{provider_of, access_of, servers_of, fits, base_of_name}

@@ -7,7 +7,7 @@ use Rattle.sd_conf.specs.declared.options.ConfOption.TheVariants as options
 use Rattle.sd_conf.specs.declared.config.Config.{Config}
 use Rattle.sd_conf.specs.declared.ConfFault.{ConfFault}
 use Rattle.sd_conf.specs.declared.ConfFault.TheVariants as faults
-use Rattle.sd_conf.specs.Texts.{pieces}
+use Rattle.sd_pieces.specs.Pieces.{pieces}
 use Rattle.sd_conf.specs.Lines.{Form, Setting, forms_of, settings_in, fault_in}
 use Rattle.sd_conf.specs.Options.{line_of}
 use Rattle.sd_conf.specs.Chosen.{Chosen, number, flag, text, texts, access, primaries, backups, base, missing, bad_value, unknown, told}

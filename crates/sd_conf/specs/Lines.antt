@@ -7,7 +7,8 @@ use Rattle.sd_conf.specs.declared.lines.Entry.{Entry}
 use Rattle.sd_conf.specs.declared.lines.Walk.{Walk}
 use Rattle.sd_conf.specs.declared.ConfFault.{ConfFault}
 use Rattle.sd_conf.specs.declared.ConfFault.TheVariants as faults
-use Rattle.sd_conf.specs.Texts.{cut_of, trimmed, is_empty}
+use Rattle.sd_pieces.specs.Pieces.{cut_of}
+use Rattle.sd_conf.specs.Texts.{trimmed, is_empty}
 
 -- what a line says
 pub data Form : Type 0 where

@@ -1,22 +1,7 @@
--- Pieces of a text, blanks, numbers, lists.
-use Rattle.std.specs.Prelude.{ℕ, ◌+◌, ◌-◌, ◌*◌, ◌^◌, Bool, true, false, ◌&&◌, ◌||◌, not, ◌==◌, if◌then◌else◌, List, [], ◌∷◌, length, map, filter, reverse, fold, Option, Some, None, nat_lt, nat_le, codes}
-use Rattle.std.specs.List.{slice_split, list_all}
-use Rattle.std.specs.Char.{is_ascii_digit}
+-- Blanks, lists, TRUE and FALSE.
+use Rattle.std.specs.Prelude.{ℕ, Bool, true, false, ◌||◌, not, ◌==◌, if◌then◌else◌, List, [], ◌∷◌, map, filter, reverse, Option, Some, None, codes}
+use Rattle.sd_pieces.specs.Pieces.{pieces}
 use Rattle.sd_dn.specs.Comparing.{same_text}
-
--- what stands before the first byte that parts, and what stands behind it
-abbrev pub cut_of : ℕ → List ℕ → List ℕ × Option (List ℕ)
-cut_of by [] = ([], None)
-cut_of by (b ∷ bs) = if b == by then ([], Some bs) else (b ∷ (cut_of by bs).0, (cut_of by bs).1)
-
--- the pieces between the bytes that part
-abbrev pub pieces : ℕ → List ℕ → List (List ℕ)
-pieces by bytes = slice_split (λ b. b == by) bytes
-
--- the pieces of what is left, where something is
-abbrev pub pieces_in : ℕ → Option (List ℕ) → List (List ℕ)
-pieces_in by None = []
-pieces_in by (Some bytes) = pieces by bytes
 
 -- space, tab, carriage return
 abbrev pub is_blank : ℕ → Bool
@@ -40,13 +25,6 @@ is_empty (b ∷ bs) = false
 -- the items of a list with commas: trimmed, and none empty
 abbrev pub items_of : List ℕ → List (List ℕ)
 items_of bs = filter (λ x. not (is_empty x)) (map trimmed (pieces 44 bs))
-
-abbrev pub value_of_digits : List ℕ → ℕ
-value_of_digits bs = fold (λ n b. 10 * n + (b - 48)) 0 bs
-
--- a number of one to ten digits, up to 4294967295
-abbrev pub number_of : List ℕ → Option ℕ
-number_of bs = if (nat_lt 0 (length bs) && nat_le (length bs) 10) && (list_all is_ascii_digit bs && nat_lt (value_of_digits bs) (2 ^ 32)) then Some (value_of_digits bs) else None
 
 -- TRUE or FALSE, without ASCII case
 abbrev pub flag_of : List ℕ → Option Bool

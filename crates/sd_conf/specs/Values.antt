@@ -11,7 +11,9 @@ use Rattle.sd_conf.specs.declared.options.Rule.TheVariants as rules
 use Rattle.sd_conf.specs.declared.values.Provider.{Provider}
 use Rattle.sd_conf.specs.declared.values.Provider.TheVariants as providers
 use Rattle.sd_conf.specs.declared.servers.Server.{Server}
-use Rattle.sd_conf.specs.Texts.{cut_of, pieces, items_of, number_of, flag_of, is_empty}
+use Rattle.sd_pieces.specs.Pieces.{cut_of, pieces}
+use Rattle.sd_pieces.specs.Digits.{number_of}
+use Rattle.sd_conf.specs.Texts.{items_of, flag_of, is_empty}
 use Rattle.sd_conf.specs.Options.{behind}
 
 abbrev pub provider_of : List ℕ → Option Provider

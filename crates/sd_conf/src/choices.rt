@@ -9,10 +9,11 @@ ghost use Rattle.sd_conf.specs.Texts as texts;
 use crate::lines::Entry;
 use crate::options::{ConfOption, OPTIONS, Part, is_known, is_line_of, is_section, row_of};
 use crate::servers::{ServerList, servers};
-use crate::texts::{cut, flag, items, number};
+use crate::texts::{flag, items};
 use crate::values::{Provider, access_of, fits, provider_of};
 use sd_base::{Memory, Text, Texts};
 use sd_dn::is_dn;
+use sd_pieces::{cut, read_number};
 use sd_rules::AccessMode;
 use std::alloc::Global;
 
@@ -66,7 +67,7 @@ impl<'a> Choices<'a> {
         ensures { result ≡ chosen.number (chosen.chosen self.now) option otherwise }
     {
         match self.value(option) {
-            Some(value) => number(value).unwrap_or(otherwise),
+            Some(value) => read_number(value).unwrap_or(otherwise),
             None => otherwise,
         }
     }

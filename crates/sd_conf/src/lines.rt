@@ -3,10 +3,11 @@ ghost use Rattle.std.specs.Prelude.{◌≡◌, ℕ, List, length, map, IfOk, Opt
 ghost use Rattle.std.specs.Option.{option_copied};
 ghost use Rattle.sd_conf.specs.Lines.{Form};
 ghost use Rattle.sd_conf.specs.Lines as forms;
-ghost use Rattle.sd_conf.specs.Texts as texts;
+ghost use Rattle.sd_pieces.specs.Pieces as split;
 
 use crate::ConfFault;
-use crate::texts::{cut, pieces, trimmed};
+use crate::texts::{pieces, trimmed};
+use sd_pieces::cut;
 use std::alloc::Global;
 
 /// What a line says.
@@ -116,7 +117,7 @@ impl<'a> Walk<'a> {
 
 /// The keys' lines of a text, oldest first.
 pub fn entries(alloc: Global, text: &[u8]) -> Result<Vec<Entry<'_>>, ConfFault>
-    ensures { forms.Finds (λ v. v.items) result (forms.forms_of (texts.pieces 10 text.now)) }
+    ensures { forms.Finds (λ v. v.items) result (forms.forms_of (split.pieces 10 text.now)) }
 {
     let lines = pieces(alloc, b'\n', text)?;
     let mut walk = Walk {

@@ -3,12 +3,14 @@ ghost use Rattle.std.specs.Prelude.{◌≡◌, ℕ, Bool, List, Option, length, 
 ghost use Rattle.std.specs.Option.{option_copied, option_map};
 ghost use Rattle.std.specs.List.{list_all};
 ghost use Rattle.sd_conf.specs.Values as values;
-ghost use Rattle.sd_conf.specs.Texts as texts;
+ghost use Rattle.sd_pieces.specs.Digits.{number_of};
+ghost use Rattle.sd_pieces.specs.Pieces.{cut_of};
 ghost use Rattle.sd_conf.specs.Options as options;
 
 use crate::options::behind;
-use crate::texts::{cut, items, number};
+use crate::texts::items;
 use sd_base::{Copied, Items, Memory, Text};
+use sd_pieces::{cut, read_number};
 use std::alloc::Global;
 
 /// A server of the directory.
@@ -49,9 +51,9 @@ fn is_host(bytes: &[u8]) -> bool
 }
 
 fn port(value: &[u8]) -> Option<u16>
-    ensures { result ≡ values.in_port_range (texts.number_of value.now) }
+    ensures { result ≡ values.in_port_range (number_of value.now) }
 {
-    match number(value) {
+    match read_number(value) {
         Some(n) if 1 <= n && n <= 65535 => Some(n as u16),
         _ => None,
     }
@@ -77,7 +79,7 @@ fn host_server(alloc: Global, host: &[u8]) -> Result<Option<Server>, Memory>
 }
 
 fn address(alloc: Global, bytes: &[u8]) -> Result<Option<Server>, Memory>
-    ensures { IfOk result (λ found. found ≡ values.address_of (texts.cut_of 58 bytes.now).0 (texts.cut_of 58 bytes.now).1) }
+    ensures { IfOk result (λ found. found ≡ values.address_of (cut_of 58 bytes.now).0 (cut_of 58 bytes.now).1) }
 {
     let (host, behind) = cut(b':', bytes);
     match behind {

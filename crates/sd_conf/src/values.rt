@@ -1,13 +1,14 @@
 // What values mean, and which values an option's rule lets stand.
 ghost use Rattle.std.specs.Prelude.{◌≡◌, ℕ, Bool, List, Option, length, IfOk, is_some};
 ghost use Rattle.sd_conf.specs.Values as values;
-ghost use Rattle.sd_conf.specs.Texts as texts;
+ghost use Rattle.sd_pieces.specs.Digits.{number_of};
 
 use crate::options::Rule;
 use crate::servers::servers;
-use crate::texts::{flag, number};
+use crate::texts::flag;
 use sd_base::Memory;
 use sd_dn::is_dn;
+use sd_pieces::read_number;
 use sd_rules::AccessMode;
 use std::alloc::Global;
 
@@ -51,9 +52,9 @@ pub fn access_of(name: &[u8]) -> Option<AccessMode>
 }
 
 fn is_within(least: u32, greatest: u32, value: &[u8]) -> bool
-    ensures { result ≡ values.is_within least greatest (texts.number_of value.now) }
+    ensures { result ≡ values.is_within least greatest (number_of value.now) }
 {
-    match number(value) {
+    match read_number(value) {
         Some(n) => least <= n && n <= greatest,
         None => false,
     }

@@ -1,12 +1,13 @@
 use Rattle.std.proofs.Common.{◌≡◌, ◌+◌, ◌++◌, map, filter, not, length}
 use Rattle.std.specs.Option.{option_copied, option_map_or}
+use Rattle.sd_pieces.specs.Pieces.{pieces_in}
 use Rattle.sd_conf.specs.Texts as texts
 use Rattle.sd_conf.proofs.texts.items.Given as goal
 
 -- the items so far and those of the pieces left are those of the list
 abbrev pub invariant-loop-left : goal.invariant-loop-left
 invariant-loop-left l =
-    map (λ x. x.now) l.found.items ++ filter (λ x. not (texts.is_empty x)) (map texts.trimmed (texts.pieces_in 44 (option_copied l.left))) ≡ texts.items_of l.bytes
+    map (λ x. x.now) l.found.items ++ filter (λ x. not (texts.is_empty x)) (map texts.trimmed (pieces_in 44 (option_copied l.left))) ≡ texts.items_of l.bytes
 
 abbrev pub decreases-loop-left : goal.decreases-loop-left
 decreases-loop-left l = option_map_or (λ bytes. length bytes + 1) (option_copied l.left) 0

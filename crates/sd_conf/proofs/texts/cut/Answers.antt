@@ -1,9 +1,0 @@
-use Rattle.sd_conf.proofs.Pieces.{pieces_by_cut, shorter_by_cut}
-use Rattle.sd_conf.proofs.texts.cut.Goals as goal
-
-pub returns : goal.returns
-returns c = record {
-  parts = c.cut_at_first.ensures;
-  pieces = pieces_by_cut c.args.by c.args.bytes.now _ c.cut_at_first.ensures;
-  shorter = shorter_by_cut c.args.by c.args.bytes.now _ c.cut_at_first.ensures;
-}
