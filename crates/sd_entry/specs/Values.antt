@@ -1,6 +1,7 @@
 -- What an entry's attributes hold. Names and classes are compared without ASCII case.
-use Rattle.std.specs.Prelude.{ℕ, ◌+◌, ◌-◌, ◌*◌, Bool, false, not, ◌&&◌, ◌||◌, nat_le, if◌then◌else◌, List, [], ◌∷◌, length, fold, Option, Some, None, codes}
-use Rattle.std.specs.List.{list_any, list_all, slice_get}
+use Rattle.std.specs.Prelude.{ℕ, Bool, ◌&&◌, if◌then◌else◌, List, [], ◌∷◌, Option, Some, None, codes}
+use Rattle.std.specs.List.{list_any, slice_get}
+pub use Rattle.sd_pieces.specs.Digits.{is_digit, value_of, is_number, number_of}
 use Rattle.sd_dn.specs.Comparing.{same_text}
 use Rattle.sd_ldap.specs.declared.entry.Attribute.{Attribute}
 
@@ -32,18 +33,3 @@ says name text attributes = list_any (λ (a : Attribute). own_says name text a) 
 -- the entry is of a class
 abbrev pub has_class : List ℕ → List Attribute → Bool
 has_class class attributes = says (codes "objectClass") class attributes
-
-abbrev pub is_digit : ℕ → Bool
-is_digit b = nat_le 48 b && nat_le b 57
-
--- the number that digits stand for
-abbrev pub value_of : List ℕ → ℕ
-value_of digits = fold (λ n b. 10 * n + (b - 48)) 0 digits
-
--- one to ten digits of a number of 32 bits
-abbrev pub is_number : List ℕ → Bool
-is_number text = nat_le 1 (length text) && (nat_le (length text) 10 && (list_all is_digit text && nat_le (value_of text) 4294967295))
-
--- its number, where a text is one
-abbrev pub number_of : List ℕ → Option ℕ
-number_of text = if is_number text then Some (value_of text) else None

@@ -4,8 +4,9 @@
 mod users;
 mod values;
 
+pub use sd_pieces::read_number;
 pub use users::fits_user;
-pub use values::{first_value, has_class, read_number};
+pub use values::{first_value, has_class};
 
 #[cfg(test)]
 mod tests;

@@ -3,8 +3,9 @@ ghost use Rattle.std.specs.Prelude.{◌≡◌, ℕ, List, Option, codes};
 ghost use Rattle.sd_entry.specs.Values.{first_of};
 ghost use Rattle.sd_entry.specs.Users.{is_filled, holds_number, has_user_values, is_user};
 
-use crate::values::{first_value, has_class, read_number};
+use crate::values::{first_value, has_class};
 use sd_ldap::DirEntry;
+use sd_pieces::read_number;
 
 /// Whether the first value of an attribute is there and not empty.
 fn is_filled(entry: &DirEntry, name: &[u8]) -> bool

@@ -7,7 +7,8 @@ use Rattle.base64.specs.Engines.{standard}
 use Rattle.base64.specs.GeneralPurpose.{decode_of}
 use Rattle.sd_dn.specs.Comparing.{same_text}
 use Rattle.sd_ldif.specs.declared.forms.Form.{Form as KeptForm}
-use Rattle.sd_ldif.specs.Lines.{Line, cut_of}
+use Rattle.sd_pieces.specs.Pieces.{cut_of}
+use Rattle.sd_ldif.specs.Lines.{Line}
 
 abbrev pub is_empty : List ℕ → Bool
 is_empty [] = true

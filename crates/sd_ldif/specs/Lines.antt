@@ -3,11 +3,6 @@ use Rattle.std.specs.Prelude.{ℕ, ◌+◌, ◌-◌, ◌^◌, min, Bool, false, 
 use Rattle.std.specs.List.{slice_split}
 use Rattle.sd_ldif.specs.declared.lines.Line.{Line as KeptLine}
 
--- what stands before the first byte that parts, and what stands behind it
-abbrev pub cut_of : ℕ → List ℕ → List ℕ × Option (List ℕ)
-cut_of by [] = ([], None)
-cut_of by (b ∷ bs) = if b == by then ([], Some bs) else (b ∷ (cut_of by bs).0, (cut_of by bs).1)
-
 -- without the carriage return at the end
 abbrev pub without_return : List ℕ → List ℕ
 without_return bs = if nat_lt 0 (length bs) && slice_index bs (length bs - 1) == 13 then take (length bs - 1) bs else bs

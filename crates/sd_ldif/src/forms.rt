@@ -5,11 +5,12 @@ ghost use Rattle.std.specs.List.{list_all};
 ghost use Rattle.sd_ldif.specs.Lines as lines;
 ghost use Rattle.sd_ldif.specs.Forms as forms;
 
-use crate::lines::{Line, cut};
+use crate::lines::Line;
 use base64::DecodeAllocError;
 use base64::engine::general_purpose::STANDARD;
 use sd_base::{Memory, Text};
 use sd_dn::compare::same_text;
+use sd_pieces::cut;
 use std::alloc::Global;
 
 /// `NAME: TEXT`, or `NAME:: BASE64`.

@@ -3,19 +3,8 @@ ghost use Rattle.std.specs.Prelude.{◌≡◌, ◌∷◌, ◌<◌, ℕ, List, le
 ghost use Rattle.std.specs.Option.{option_copied};
 ghost use Rattle.sd_ldif.specs.Lines as lines;
 
+use sd_pieces::cut;
 use std::alloc::{AllocError, Global};
-
-/// What stands before the first byte that parts, and what stands behind it.
-pub fn cut(by: u8, bytes: &[u8]) -> (&[u8], Option<&[u8]>)
-    ensures { (result.0.now, option_copied result.1) ≡ lines.cut_of by bytes.now }
-{
-    for (at, b) in bytes.iter().enumerate() {
-        if *b == by {
-            return (&bytes[..at], Some(&bytes[at + 1..]));
-        }
-    }
-    (bytes, None)
-}
 
 /// A line without the carriage return at its end.
 fn without_return(line: &[u8]) -> &[u8]

@@ -116,8 +116,8 @@ short_value text h =
     let below : value_of text < (0 + 1) * tens (length text) = value_below text 0 digits.1 in
     least (value_of text) (tens (length text)) below most
 
-pub unlimited : (text : List ℕ) → is_short_number text ≡ true → min (value_of text) (2 ^ 64 - 1) ≡ value_of text
-unlimited text h = let below : value_of text < 10000000000000000000 = short_value text h in min_first (value_of text) (2 ^ 64 - 1) (omega arith)
+pub unlimited : (text : List ℕ) → is_short_number text ≡ true → min (value_of text) (2 ^ 128 - 1) ≡ value_of text
+unlimited text h = let below : value_of text < 10000000000000000000 = short_value text h in min_first (value_of text) (2 ^ 128 - 1) (omega arith)
 
 pub split_same : (long short front back : List ℕ) (z e : Bool) → front ≡ take (length long - length short) long → back ≡ drop (length long - length short) long
     → z ≡ list_all (λ b. b == 48) front → z ≡ true → e ≡ same_bytes back short → length short ≤ length long → list_all is_digit long ≡ true → list_all is_digit short ≡ true

@@ -1,5 +1,5 @@
 //! Numbers as decimal digits.
-ghost use Rattle.std.specs.Prelude.{◌≡◌, ◌≤◌, ◌^◌, ◌-◌, ◌==◌, ◌&&◌, ℕ, List, Bool, true, min, length};
+ghost use Rattle.std.specs.Prelude.{◌≡◌, ◌≤◌, ◌==◌, ◌&&◌, ℕ, List, Bool, true, length};
 ghost use Rattle.std.specs.List.{list_all};
 ghost use Rattle.sd_entry.specs.Values.{is_digit, value_of};
 ghost use Rattle.sd_match.specs.Matching.{are_digits, is_short_number};
@@ -7,13 +7,7 @@ ghost use Rattle.sd_match.specs.Matching.{are_digits, is_short_number};
 pub fn are_digits(text: &[u8]) -> bool
     ensures { result ≡ are_digits text.now }
 {
-    !text.is_empty() && all_digits(text)
-}
-
-fn all_digits(text: &[u8]) -> bool
-    ensures { result ≡ list_all is_digit text.now }
-{
-    text.iter().all(|b| *b >= b'0' && *b <= b'9')
+    !text.is_empty() && sd_pieces::are_digits(text)
 }
 
 /// Whether a text is a number of at most 19 digits.
@@ -24,24 +18,11 @@ pub fn is_short_number(text: &[u8]) -> bool
 }
 
 /// The number of at most 19 digits.
-pub fn value_of(digits: &[u8]) -> u64
+pub fn value_of(digits: &[u8]) -> u128
     requires { is_short_number digits.now ≡ true }
     ensures { result ≡ value_of digits.now }
 {
-    limited_value(digits)
-}
-
-/// The value of digits, or the greatest number where it is more.
-fn limited_value(digits: &[u8]) -> u64
-    ensures { result ≡ min (value_of digits.now) (2 ^ 64 - 1) }
-{
-    let mut value = 0u64;
-    for b in digits {
-        value = value
-            .saturating_mul(10)
-            .saturating_add(u64::from(b.saturating_sub(48)));
-    }
-    value
+    sd_pieces::value_of(digits)
 }
 
 /// Whether two numbers of any length are equal.

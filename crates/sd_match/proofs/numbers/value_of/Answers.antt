@@ -3,4 +3,4 @@ use Rattle.sd_match.proofs.Digits.{unlimited}
 use Rattle.sd_match.proofs.numbers.value_of.Goals as goal
 
 pub returns : goal.returns
-returns c = c.limited_value.ensures ∙ unlimited c.args.digits.now c.requires
+returns c = c.value_of.ensures ∙ unlimited c.args.digits.now c.requires
