@@ -6,7 +6,8 @@ use Rattle.sd_stub.specs.declared.Mode.{Mode}
 use Rattle.sd_stub.specs.declared.Mode.TheVariants as modes
 use Rattle.sd_lines.specs.declared.lines.Line.{Line}
 use Rattle.sd_lines.specs.declared.lines.Line.TheVariants.{At, Server, Void, Bad}
-use Rattle.sd_lines.specs.Words.{is_word, number_of, id_of}
+use Rattle.sd_pieces.specs.Digits.{number_up_to}
+use Rattle.sd_lines.specs.Words.{is_word, id_of}
 
 -- ---- at T: the moment that is handed in from here on
 
@@ -15,7 +16,7 @@ at_line (Some moment) = At moment
 at_line None = Bad
 
 abbrev pub at_moment : Option (List ℕ) → Line
-at_moment (Some moment) = at_line (number_of (2 ^ 64 - 1) moment)
+at_moment (Some moment) = at_line (number_up_to (2 ^ 64 - 1) moment)
 at_moment None = Bad
 
 -- ---- server I MODE
@@ -36,7 +37,7 @@ code_mode (Some code) = if nat_le 1 code then Some (modes.Code code) else None
 
 abbrev pub mode_of : List (List ℕ) → Option Mode
 mode_of (w ∷ []) = plain_mode w
-mode_of (w ∷ code ∷ []) = if same_name w (codes "code") then code_mode (number_of 90 code) else None
+mode_of (w ∷ code ∷ []) = if same_name w (codes "code") then code_mode (number_up_to 90 code) else None
 mode_of _ = None
 
 abbrev pub server_line : Option ℕ → Option Mode → Line

@@ -2,7 +2,8 @@
 use Rattle.std.specs.Prelude.{ℕ, ◌^◌, ◌-◌, List, [], ◌∷◌, Option, Some, None, if◌then◌else◌}
 use Rattle.sd_lines.specs.declared.lines.Line.{Line}
 use Rattle.sd_lines.specs.declared.lines.Line.TheVariants.{GetUser, GetUid, GetGroup, GetGid, GroupsOf, Login, Access, Step, Abandon, Bad}
-use Rattle.sd_lines.specs.Words.{is_word, number_of, id_of}
+use Rattle.sd_pieces.specs.Digits.{number_up_to}
+use Rattle.sd_lines.specs.Words.{is_word, id_of}
 
 -- ---- getuser WORD, getuid N, getgroup WORD, getgid N and groupsof WORD: lookups
 
@@ -62,8 +63,8 @@ step_line (Some task) None = Bad
 step_line None count = Bad
 
 abbrev pub step_form : List (List ℕ) → Line
-step_form (task ∷ []) = step_line (number_of (2 ^ 64 - 1) task) (Some 1)
-step_form (task ∷ count ∷ []) = step_line (number_of (2 ^ 64 - 1) task) (number_of 1000 count)
+step_form (task ∷ []) = step_line (number_up_to (2 ^ 64 - 1) task) (Some 1)
+step_form (task ∷ count ∷ []) = step_line (number_up_to (2 ^ 64 - 1) task) (number_up_to 1000 count)
 step_form _ = Bad
 
 abbrev pub abandon_line : Option ℕ → Line
@@ -71,5 +72,5 @@ abandon_line (Some task) = Abandon task
 abandon_line None = Bad
 
 abbrev pub abandon_by_word : Option (List ℕ) → Line
-abandon_by_word (Some task) = abandon_line (number_of (2 ^ 64 - 1) task)
+abandon_by_word (Some task) = abandon_line (number_up_to (2 ^ 64 - 1) task)
 abandon_by_word None = Bad

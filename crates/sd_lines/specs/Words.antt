@@ -1,6 +1,8 @@
 -- Lines, words, numbers and names of a scenario's text.
 use Rattle.std.specs.Prelude.{ℕ, Bool, true, false, ◌&&◌, ◌||◌, ◌==◌, ◌+◌, ◌-◌, ◌*◌, ◌^◌, not, nat_le, List, [], ◌∷◌, Option, Some, None, filter, fold, length, if◌then◌else◌}
 use Rattle.std.specs.List.{slice_split, list_all}
+use Rattle.sd_pieces.specs.Digits.{is_digit, number_up_to}
+pub use Rattle.sd_pieces.specs.Pieces.{cut_of, pieces_in}
 
 abbrev pub is_empty : List ℕ → Bool
 is_empty [] = true
@@ -14,31 +16,9 @@ lines_of text = slice_split (λ b. b == 10) text
 abbrev pub words_of : List ℕ → List (List ℕ)
 words_of line = filter (λ w. not (is_empty w)) (slice_split (λ b. b == 32) line)
 
--- the bytes before the first that parts, and those after it, where there is one
-abbrev pub cut_of : ℕ → List ℕ → List ℕ × Option (List ℕ)
-cut_of by [] = ([], None)
-cut_of by (b ∷ bs) = if b == by then ([], Some bs) else (b ∷ (cut_of by bs).0, (cut_of by bs).1)
-
--- the pieces of what is left, where something is
-abbrev pub pieces_in : ℕ → Option (List ℕ) → List (List ℕ)
-pieces_in by None = []
-pieces_in by (Some bytes) = slice_split (λ b. b == by) bytes
-
-abbrev pub is_digit : ℕ → Bool
-is_digit b = nat_le 48 b && nat_le b 57
-
--- the number that digits stand for
-abbrev pub value_of : List ℕ → ℕ
-value_of digits = fold (λ n b. 10 * n + (b - 48)) 0 digits
-
--- a decimal number without a sign, at most the limit
-abbrev pub number_of : ℕ → List ℕ → Option ℕ
-number_of limit w =
-    if not (is_empty w) && (list_all is_digit w && nat_le (value_of w) limit) then Some (value_of w) else None
-
 -- a number that fits 32 bits
 abbrev pub id_of : List ℕ → Option ℕ
-id_of w = number_of (2 ^ 32 - 1) w
+id_of w = number_up_to (2 ^ 32 - 1) w
 
 -- a letter, a digit, a dot, an underscore or a hyphen
 abbrev pub is_name_byte : ℕ → Bool

@@ -5,9 +5,7 @@ ghost use Rattle.sd_lines.specs.Access as access;
 ghost use Rattle.sd_lines.specs.Words as words;
 
 use crate::lines::{HostLine, Item, ItemList, Kind, Line, RuleLine, ServiceLine, Side, Whom};
-use crate::words::{
-    are_short_names, cut_at_first, first_of, is_short_name, pair_of, tag_of, texts_of,
-};
+use crate::words::{are_short_names, cut, first_of, is_short_name, pair_of, tag_of, texts_of};
 use sd_base::{Memory, Text};
 use std::alloc::Global;
 
@@ -127,7 +125,7 @@ fn item_on(alloc: Global, side: Option<Side>, word: &[u8]) -> Result<Option<Item
 fn item_of(alloc: Global, word: &[u8]) -> Result<Option<Item>, Memory>
     ensures { IfOk result (λ item. item ≡ access.item_of word.now) }
 {
-    let (side, whom) = cut_at_first(b'=', word);
+    let (side, whom) = cut(b'=', word);
     match whom {
         Some(whom) => item_on(alloc, side_of(side), whom),
         None => Ok(None),

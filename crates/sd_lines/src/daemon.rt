@@ -1,11 +1,13 @@
 // Lines of the moment, of servers, and of what happens to the daemon at once.
 ghost use Rattle.std.specs.Prelude.{◌≡◌, ℕ, map, IfOk};
+ghost use Rattle.sd_pieces.specs.Digits.{number_up_to};
 ghost use Rattle.sd_lines.specs.Daemon as daemon;
 ghost use Rattle.sd_lines.specs.Words as words;
 
 use crate::lines::Line;
-use crate::words::{first_of, id_of, is_word, number_of, one_of};
+use crate::words::{first_of, id_of, is_word, one_of};
 use sd_base::{Memory, Text};
+use sd_pieces::number_up_to;
 use sd_rules::What;
 use sd_stub::Mode;
 use std::alloc::Global;
@@ -17,7 +19,7 @@ pub fn at_form(ws: &[&[u8]]) -> Line
     let Some(moment) = one_of(ws) else {
         return Line::Bad;
     };
-    match number_of(u64::MAX, moment) {
+    match number_up_to(u64::MAX, moment) {
         Some(moment) => Line::At(moment),
         None => Line::Bad,
     }
@@ -46,9 +48,9 @@ fn plain_mode(word: &[u8]) -> Option<Mode>
 
 /// `code C`, of the word behind the first.
 fn code_mode(code: &[u8]) -> Option<Mode>
-    ensures { result ≡ daemon.code_mode (words.number_of 90 code.now) }
+    ensures { result ≡ daemon.code_mode (number_up_to 90 code.now) }
 {
-    let code = number_of(90, code)?;
+    let code = number_up_to(90, code)?;
     if 1 <= code {
         Some(Mode::Code(code as u32))
     } else {

@@ -4,8 +4,9 @@ ghost use Rattle.sd_lines.specs.Tasks as tasks;
 ghost use Rattle.sd_lines.specs.Words as words;
 
 use crate::lines::Line;
-use crate::words::{id_of, is_word, number_of, one_of, pair_of};
+use crate::words::{id_of, is_word, one_of, pair_of};
 use sd_base::{Memory, Text};
+use sd_pieces::number_up_to;
 use std::alloc::Global;
 
 /// `getuser WORD`, of the words behind the first.
@@ -143,8 +144,8 @@ pub fn step_form(ws: &[&[u8]]) -> Line
     ensures { result ≡ tasks.step_form (map (λ w. w.now) ws.now) }
 {
     match ws {
-        [task] => step_line(number_of(u64::MAX, task), Some(1)),
-        [task, count] => step_line(number_of(u64::MAX, task), number_of(1000, count)),
+        [task] => step_line(number_up_to(u64::MAX, task), Some(1)),
+        [task, count] => step_line(number_up_to(u64::MAX, task), number_up_to(1000, count)),
         _ => Line::Bad,
     }
 }
@@ -156,7 +157,7 @@ pub fn abandon_form(ws: &[&[u8]]) -> Line
     let Some(task) = one_of(ws) else {
         return Line::Bad;
     };
-    match number_of(u64::MAX, task) {
+    match number_up_to(u64::MAX, task) {
         Some(task) => Line::Abandon(task),
         None => Line::Bad,
     }

@@ -2,31 +2,13 @@
 ghost use Rattle.std.specs.Prelude.{◌≡◌, ℕ, ◌<◌, ◌≤◌, ◌^◌, ◌-◌, ◌+◌, ◌==◌, ◌∷◌, ◌&&◌, min, not, nat_le, length, map, IfOk, IfSome};
 ghost use Rattle.std.specs.List.{slice_split, list_all};
 ghost use Rattle.std.specs.Option.{option_copied, option_map};
+ghost use Rattle.sd_pieces.specs.Digits.{is_digit};
 ghost use Rattle.sd_lines.specs.Words as words;
 
 use sd_base::{Memory, Text, Texts};
+pub use sd_pieces::cut;
+use sd_pieces::number_up_to;
 use std::alloc::Global;
-
-/// What stands before the first byte that parts, and what stands behind it.
-pub fn cut_at_first(by: u8, bytes: &[u8]) -> (&[u8], Option<&[u8]>)
-    ensures { (result.0.now, option_copied result.1) ≡ words.cut_of by bytes.now }
-{
-    for (at, byte) in bytes.iter().enumerate() {
-        if *byte == by {
-            return (&bytes[..at], Some(&bytes[at + 1..]));
-        }
-    }
-    (bytes, None)
-}
-
-/// The first piece of some bytes that a byte parts, and what comes behind it, where there is more.
-#[tactic(auto, using(crate::proofs::Pieces::pieces_by_cut))]
-pub fn cut(by: u8, bytes: &[u8]) -> (&[u8], Option<&[u8]>)
-    ensures pieces { slice_split (λ b. b == by) bytes.now ≡ result.0.now ∷ words.pieces_in by (option_copied result.1) }
-    ensures shorter { IfSome (option_copied result.1) (λ rest. length rest < length bytes.now) }
-{
-    cut_at_first(by, bytes)
-}
 
 /// The words of a line.
 pub fn words_of(alloc: Global, line: &[u8]) -> Result<Vec<&[u8]>, Memory>
@@ -45,43 +27,9 @@ pub fn words_of(alloc: Global, line: &[u8]) -> Result<Vec<&[u8]>, Memory>
 }
 
 fn is_digit(byte: u8) -> bool
-    ensures { result ≡ words.is_digit byte }
+    ensures { result ≡ is_digit byte }
 {
     b'0' <= byte && byte <= b'9'
-}
-
-fn are_digits(word: &[u8]) -> bool
-    ensures { result ≡ list_all words.is_digit word.now }
-{
-    word.iter().all(|byte| is_digit(*byte))
-}
-
-/// The value of digits, or the greatest u128 where it is more.
-fn value_of(word: &[u8]) -> u128
-    ensures { result ≡ min (words.value_of word.now) (2 ^ 128 - 1) }
-{
-    let mut value = 0u128;
-    for byte in word {
-        value = value
-            .saturating_mul(10)
-            .saturating_add(u128::from(byte.saturating_sub(b'0')));
-    }
-    value
-}
-
-/// A decimal number without a sign, at most the limit.
-pub fn number_of(limit: u64, word: &[u8]) -> Option<u64>
-    ensures { result ≡ words.number_of limit word.now }
-{
-    if word.is_empty() || !are_digits(word) {
-        return None;
-    }
-    let value = value_of(word);
-    if value <= u128::from(limit) {
-        Some(value as u64)
-    } else {
-        None
-    }
 }
 
 fn is_name_byte(byte: u8) -> bool
@@ -210,7 +158,7 @@ pub fn tag_of(word: &[u8]) -> Option<(u8, &[u8])>
 pub fn id_of(word: &[u8]) -> Option<u32>
     ensures { result ≡ words.id_of word.now }
 {
-    match number_of(u64::from(u32::MAX), word) {
+    match number_up_to(u64::from(u32::MAX), word) {
         Some(number) => Some(number as u32),
         None => None,
     }
@@ -255,5 +203,5 @@ fn without_spaces(line: &[u8]) -> &[u8]
 pub fn first_word(line: &[u8]) -> (&[u8], Option<&[u8]>)
     ensures { (result.0.now, option_copied result.1) ≡ words.first_word line.now }
 {
-    cut_at_first(b' ', without_spaces(line))
+    cut(b' ', without_spaces(line))
 }

@@ -1,8 +1,0 @@
-use Rattle.sd_lines.proofs.Pieces.{pieces_by_cut, shorter_by_cut}
-use Rattle.sd_lines.proofs.words.cut.Goals as goal
-
-pub returns : goal.returns
-returns c = record {
-  pieces = pieces_by_cut c.args.by c.args.bytes.now _ c.cut_at_first.ensures;
-  shorter = shorter_by_cut c.args.by c.args.bytes.now _ c.cut_at_first.ensures;
-}
