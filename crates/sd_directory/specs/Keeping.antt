@@ -1,12 +1,8 @@
 -- The entries of a directory as they are put and taken out, in the order in which they were first put.
-use Rattle.std.specs.Prelude.{ℕ, not, filter, if◌then◌else◌, List, [], ◌∷◌}
+use Rattle.std.specs.Prelude.{ℕ, not, filter, List, [], ◌∷◌}
 use Rattle.sd_dn.specs.Texts.{same_dn_text}
 use Rattle.sd_ldap.specs.declared.entry.DirEntry.{DirEntry}
-
--- an entry stands in the place of the one that has its DN, else behind all; a text that is no DN equals none
-abbrev pub put : List DirEntry → DirEntry → List DirEntry
-put [] e = e ∷ []
-put (k ∷ rest) e = if same_dn_text k.dn e.dn then e ∷ rest else k ∷ put rest e
+pub use Rattle.sd_stub.specs.Keeping.{put}
 
 -- one after the other
 abbrev pub put_all : List DirEntry → List DirEntry → List DirEntry
