@@ -238,6 +238,11 @@ bool is_account_name(const char *name)
     return true;
 }
 
+bool is_member_name(const char *name)
+{
+    return is_account_name(name) && strchr(name, ',') == NULL;
+}
+
 bool is_account_number(uint32_t number)
 {
     return number != 0 && number != UINT32_MAX;
@@ -366,7 +371,7 @@ enum reading read_user(char *buffer, size_t line, size_t length, size_t room, st
 }
 
 /* Reads the members one behind the other, and counts those that a host can have. The others are taken
- * out again: no user of that name can be looked up. */
+ * out again: with one of them libc prints no line of the whole group. */
 static enum reading take_members(struct fields *fields, size_t *count)
 {
     *count = 0;
@@ -379,7 +384,7 @@ static enum reading take_members(struct fields *fields, size_t *count)
         /* No member's name is empty. */
         if (reading == BAD || fields->out == name + 1)
             return BAD;
-        if (reading == UNFIT || !is_account_name(name))
+        if (reading == UNFIT || !is_member_name(name))
             fields->out = name;
         else
             ++*count;

@@ -56,6 +56,9 @@ enum reading {
  * colon, as passwd(5) has them, so that no line printed for one reads as another's. */
 bool is_account_name(const char *name);
 
+/* Whether such a user can also be told as a member of a group: group(5) parts members by commas. */
+bool is_member_name(const char *name);
+
 /* Whether a host may learn of this uid or gid from a directory: not 0, which is root's, and not the
  * greatest number, which stands for none. */
 bool is_account_number(uint32_t number);

@@ -46,8 +46,8 @@ class Directory:
         ] + [User("m%d" % i, 20000 + i, 20000, "pw-m%d" % i) for i in range(members)]
         self.groups = [
             Group("alice", 10001, ["alice"]),
-            Group("staff", 30001, ["alice", "bob"]),
-            Group("engineers", 30002, ["carol"], ["staff"]),
+            Group("crew", 30001, ["alice", "bob"]),
+            Group("engineers", 30002, ["carol"], ["crew"]),
             Group("everyone", 30003, ["dave", "comma,name"], ["engineers"]),
             Group("crowd", 30004, ["m%d" % i for i in range(members)]),
             Group("zero", 0, ["alice"]),

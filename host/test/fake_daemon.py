@@ -16,6 +16,7 @@ for every request. Bytes in it may be written as %XX.
     !deaf          with --behave: the end at once       !long       a length of 2^32 - 1
     !over          one byte more than the length says   !under      one byte less, and no end
     !mutate SEED   the reply with some of its bytes changed
+    !rule N        a rule that grants, whose name has N bytes
 """
 import argparse
 import os
@@ -256,6 +257,9 @@ def send_reply(connection, text, behaviour):
     word, _, rest = behaviour.partition(" ")
     if word == "say":
         text = unescaped(rest)
+        whole = struct.pack(">I", len(text)) + text
+    elif word == "rule":
+        text = b"granted 7 rule " + b"x" * int(rest)
         whole = struct.pack(">I", len(text)) + text
     elif word == "raw":
         connection.sendall(unescaped(rest))

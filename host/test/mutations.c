@@ -61,7 +61,7 @@ static void try_group(const char *text, size_t length, size_t room, unsigned lon
             demand((char *)(member + 1) <= end, "end of the list of members", turn);
             if (*member == NULL)
                 break;
-            demand(lies_in(*member, block, room) && is_account_name(*member), "member", turn);
+            demand(lies_in(*member, block, room) && is_member_name(*member), "member", turn);
         }
     }
     free(block);

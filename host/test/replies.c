@@ -180,7 +180,7 @@ static const struct {
     { "staff:*:2001:alice,bob", READ, "staff", "alice;bob;", 2001 },
     { "staff:*:2001:", READ, "staff", "", 2001 },
     { "staff::2001:alice", READ, "staff", "alice;", 2001 },
-    { "a b\\2cc:*:1:comma\\2cname,back\\5cslash", READ, "a b,c", "comma,name;back\\slash;", 1 },
+    { "a b\\2cc:*:1:comma\\2cname,back\\5cslash", READ, "a b,c", "back\\slash;", 1 },
     { "staff:*:1:alice,col\\3aon,new\\0aline,ze\\00ro,bob", READ, "staff", "alice;bob;", 1 },
     { "staff:*:0:alice", UNFIT, 0, 0, 0 },
     { "staff:*:4294967295:alice", UNFIT, 0, 0, 0 },
