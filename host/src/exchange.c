@@ -16,7 +16,7 @@
 #include "replies.h"
 
 #ifndef BIXETHOMI_SOCKET_PATH
-#define BIXETHOMI_SOCKET_PATH "/run/bixethomi/socket.public"
+#error "BIXETHOMI_SOCKET_PATH is the daemon's public socket"
 #endif
 
 /* Seconds for a whole question, and of these for being connected. The daemon gives each server 6

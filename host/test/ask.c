@@ -9,6 +9,8 @@
  *   -s        a signal each millisecond, whose handler lets no call go on
  *   -c        starts a program while the answer is awaited, and prints the sockets that it was given
  *   -f        closes the standard streams but for the error one while it asks
+ *   -x        cancels the asking threads meanwhile, which end their question all the same
+ *   -o        listens itself at the socket that BIXETHOMI_SOCKET names
  *
  * The exit status is 0 where the answers are the same and no descriptor was left open, else 1. */
 #include <dlfcn.h>
@@ -24,7 +26,9 @@
 #include <stdio.h>
 #include <stdlib.h>
 #include <string.h>
+#include <sys/socket.h>
 #include <sys/time.h>
+#include <sys/un.h>
 #include <sys/wait.h>
 #include <time.h>
 #include <unistd.h>
@@ -264,6 +268,21 @@ static void *start_program(void *given)
     return NULL;
 }
 
+/* The socket of a daemon that is this process. */
+static void listen_itself(void)
+{
+    const char *path = getenv("BIXETHOMI_SOCKET");
+    struct sockaddr_un address = { .sun_family = AF_UNIX };
+    int listener = socket(AF_UNIX, SOCK_STREAM | SOCK_CLOEXEC, 0);
+
+    if (path == NULL || strlen(path) >= sizeof address.sun_path || listener < 0)
+        fail("no socket");
+    strcpy(address.sun_path, path);
+    unlink(path);
+    if (bind(listener, (const struct sockaddr *)&address, sizeof address) != 0 || listen(listener, 8) != 0)
+        fail("it cannot listen");
+}
+
 static int open_descriptors(void)
 {
     int count = 0;
@@ -281,6 +300,7 @@ int main(int count, char **words)
     bool starts_program = false;
     bool has_alarms = false;
     bool is_without_streams = false;
+    bool is_cancelled = false;
     pthread_t program;
     pthread_t thread[64];
     struct question *questions;
@@ -288,7 +308,7 @@ int main(int count, char **words)
     int before;
     bool is_well = true;
 
-    for (int option; (option = getopt(count, words, "r:n:t:scf")) != -1;) {
+    for (int option; (option = getopt(count, words, "r:n:t:scfxo")) != -1;) {
         if (option == 'r')
             question.room = strtoul(optarg, NULL, 10);
         else if (option == 'n')
@@ -301,6 +321,10 @@ int main(int count, char **words)
             starts_program = true;
         else if (option == 'f')
             is_without_streams = true;
+        else if (option == 'x')
+            is_cancelled = true;
+        else if (option == 'o')
+            listen_itself();
         else
             fail("no such option");
     }
@@ -327,9 +351,16 @@ int main(int count, char **words)
         pthread_create(&program, NULL, start_program, NULL);
     for (int i = 0; i < threads; i++) {
         questions[i] = question;
-        questions[i].answer = malloc(ANSWER);
+        questions[i].answer = calloc(1, ANSWER);
         if (questions[i].answer == NULL || pthread_create(&thread[i], NULL, ask_often, &questions[i]) != 0)
             fail("no thread");
+    }
+    if (is_cancelled) {
+        struct timespec while_asking = { .tv_nsec = 200000000 };
+
+        nanosleep(&while_asking, NULL);
+        for (int i = 0; i < threads; i++)
+            pthread_cancel(thread[i]);
     }
     for (int i = 0; i < threads; i++) {
         pthread_join(thread[i], NULL);

@@ -52,8 +52,8 @@ class Directory:
             Group("crowd", 30004, ["m%d" % i for i in range(members)]),
             Group("zero", 0, ["alice"]),
         ]
-        self.rules = [Rule("engineers_by_ssh", ["engineers"], ["sshd"])]
-        self.services = ["sshd", "login"]
+        self.rules = [Rule("engineers_log_in", ["engineers"], ["sshd", "login", "su-l"])]
+        self.services = ["sshd", "login", "su-l"]
 
     def user(self, name):
         return next((u for u in self.users if u.name == name), None)
