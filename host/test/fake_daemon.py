@@ -97,7 +97,7 @@ class Daemon:
     """Answers as the daemon does with cache_credentials on, over one directory that can be unreachable."""
 
     def __init__(self, words):
-        self.directory = Directory()
+        self.socket, self.directory = words.socket, Directory()
         self.attempts, self.delay, self.days = words.attempts, words.delay, words.expiration
         self.lock = threading.Lock()
         self.entries = 0          # of the journal
@@ -323,6 +323,8 @@ def serve(daemon, connection, is_public, behave):
                 if not send_reply(connection, text, request[1][1:] if named else behave):
                     return
                 if request[0] == 35:
+                    os.unlink(daemon.socket)
+                    os.unlink(daemon.socket + ".public")
                     os._exit(0)
         except BadFrame:
             daemon.note(("bad frame",))

@@ -1,7 +1,8 @@
 #!/usr/bin/env python3
 """frame.py SOCKET WORD [TEXT..]: sends one request as the daemon's frames have it, and prints the reply.
 
-WORD is user, uid, group, gid, groups, login, access, void-all, offline, online or stop."""
+WORD is user, uid, group, gid, groups, login, access, void-all, offline, online or stop. After `stop` it connects
+once more, so that a daemon which waits for a connection sees that it is to end."""
 import socket
 import struct
 import sys
@@ -37,6 +38,9 @@ def main():
         connection.sendall(struct.pack(">I", len(body)) + body)
         length = struct.unpack(">I", exact(connection, 4))[0]
         print(exact(connection, length).decode("utf-8", "replace"))
+    if word == "stop":
+        with socket.socket(socket.AF_UNIX) as connection:
+            connection.connect_ex(path)
 
 
 main()
