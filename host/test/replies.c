@@ -71,6 +71,8 @@ static const struct {
     { "denied 18 deny", SAYS_NOTHING, SAYS_NOTHING, SAYS_DENIED, 0 },
     { "denied 18 simple", SAYS_NOTHING, SAYS_NOTHING, SAYS_DENIED, 0 },
     { "denied 18 norule", SAYS_NOTHING, SAYS_NOTHING, SAYS_DENIED, 0 },
+    { "denied 18 normally", SAYS_NOTHING, SAYS_NOTHING, SAYS_NOTHING, 0 },
+    { "denied 18 denyx", SAYS_NOTHING, SAYS_NOTHING, SAYS_NOTHING, 0 },
     { "denied 18", SAYS_NOTHING, SAYS_NOTHING, SAYS_NOTHING, 0 },
     { "done 4", SAYS_NOTHING, SAYS_NOTHING, SAYS_NOTHING, 0 },
     { "", SAYS_NOTHING, SAYS_NOTHING, SAYS_NOTHING, 0 },
