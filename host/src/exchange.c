@@ -1,0 +1,262 @@
+#include "exchange.h"
+
+#include <errno.h>
+#include <fcntl.h>
+#include <poll.h>
+#include <pthread.h>
+#include <stdlib.h>
+#include <string.h>
+#include <sys/socket.h>
+#include <sys/time.h>
+#include <sys/uio.h>
+#include <sys/un.h>
+#include <time.h>
+#include <unistd.h>
+
+#include "replies.h"
+
+#ifndef BIXETHOMI_SOCKET_PATH
+#error "BIXETHOMI_SOCKET_PATH is the daemon's public socket"
+#endif
+
+/* Seconds for a whole question, and of these for being connected. The daemon gives each server 6
+ * seconds for each answer and then takes the next, so several silent servers fit. */
+#ifndef BIXETHOMI_QUESTION_SECONDS
+#define BIXETHOMI_QUESTION_SECONDS 60
+#endif
+#ifndef BIXETHOMI_CONNECT_SECONDS
+#define BIXETHOMI_CONNECT_SECONDS 10
+#endif
+
+static const int64_t nanoseconds_of_second = 1000000000;
+
+static int64_t monotonic_now(void)
+{
+    struct timespec now;
+
+    if (clock_gettime(CLOCK_MONOTONIC, &now) != 0)
+        return INT64_MAX;
+    return now.tv_sec * nanoseconds_of_second + now.tv_nsec;
+}
+
+static int64_t time_left(int64_t deadline)
+{
+    int64_t now = monotonic_now();
+
+    return now < deadline ? deadline - now : 0;
+}
+
+static bool socket_address(struct sockaddr_un *address)
+{
+    const char *path = BIXETHOMI_SOCKET_PATH;
+
+#ifdef BIXETHOMI_TEST_BUILD
+    /* Nothing, where the program has more rights than who started it. */
+    const char *other = secure_getenv("BIXETHOMI_SOCKET");
+
+    if (other != NULL)
+        path = other;
+#endif
+    memset(address, 0, sizeof *address);
+    address->sun_family = AF_UNIX;
+    if (strlen(path) >= sizeof address->sun_path)
+        return false;
+    strcpy(address->sun_path, path);
+    return true;
+}
+
+/* A process that closed its standard streams must not find the socket in their place. */
+static int above_standard_streams(int descriptor)
+{
+    int moved;
+
+    if (descriptor < 0 || descriptor > STDERR_FILENO)
+        return descriptor;
+    moved = fcntl(descriptor, F_DUPFD_CLOEXEC, STDERR_FILENO + 1);
+    close(descriptor);
+    return moved;
+}
+
+/* While the daemon's queue of connections is full, connecting waits at most this long. */
+static bool bound_connecting(int descriptor, int64_t left)
+{
+    struct timeval bound = {
+        .tv_sec = left / nanoseconds_of_second,
+        /* No time at all would mean no bound. */
+        .tv_usec = left % nanoseconds_of_second / 1000 + 1,
+    };
+
+    if (bound.tv_usec > 999999)
+        bound.tv_usec = 999999;
+    return setsockopt(descriptor, SOL_SOCKET, SO_SNDTIMEO, &bound, sizeof bound) == 0;
+}
+
+static enum exchange_end connect_to_daemon(int descriptor)
+{
+    int64_t deadline = monotonic_now() + BIXETHOMI_CONNECT_SECONDS * nanoseconds_of_second;
+    struct sockaddr_un address;
+
+    if (!socket_address(&address))
+        return EXCHANGE_NO_DAEMON;
+    for (;;) {
+        int64_t left = time_left(deadline);
+
+        if (left == 0 || !bound_connecting(descriptor, left))
+            return EXCHANGE_LATE;
+        if (connect(descriptor, (const struct sockaddr *)&address, sizeof address) == 0)
+            return EXCHANGE_WELL;
+        if (errno == EAGAIN)
+            return EXCHANGE_LATE;
+        if (errno != EINTR)
+            return EXCHANGE_NO_DAEMON;
+    }
+}
+
+/* A lookup that the daemon makes, of a server's name, must not wait for the daemon. */
+static bool is_own_socket(int descriptor)
+{
+    struct ucred peer;
+    socklen_t size = sizeof peer;
+
+    if (getsockopt(descriptor, SOL_SOCKET, SO_PEERCRED, &peer, &size) != 0)
+        return false;
+    return peer.pid == getpid();
+}
+
+static enum exchange_end wait_for(const struct exchange *exchange, short event)
+{
+    struct pollfd waited = { .fd = exchange->descriptor, .events = event };
+
+    for (;;) {
+        int64_t left = time_left(exchange->deadline);
+        int ready;
+
+        if (left == 0)
+            return EXCHANGE_LATE;
+        ready = poll(&waited, 1, (int)(left / 1000000) + 1);
+        if (ready > 0)
+            return EXCHANGE_WELL;
+        if (ready < 0 && errno != EINTR)
+            return EXCHANGE_STARVED;
+    }
+}
+
+static enum exchange_end send_request(const struct exchange *exchange, const struct request *request)
+{
+    size_t sent = 0;
+
+    while (sent < request->length) {
+        ssize_t count = send(exchange->descriptor, request->bytes + sent, request->length - sent,
+                             MSG_NOSIGNAL | MSG_DONTWAIT);
+
+        if (count >= 0) {
+            sent += (size_t)count;
+        } else if (errno == EAGAIN) {
+            enum exchange_end end = wait_for(exchange, POLLOUT);
+
+            if (end != EXCHANGE_WELL)
+                return end;
+        } else if (errno != EINTR) {
+            return EXCHANGE_BROKEN;
+        }
+    }
+    return EXCHANGE_WELL;
+}
+
+/* Takes at least one byte into the parts, in order. */
+static enum exchange_end receive(const struct exchange *exchange, struct iovec *parts, size_t count, size_t *taken)
+{
+    for (;;) {
+        struct msghdr message = { .msg_iov = parts, .msg_iovlen = count };
+        enum exchange_end end = wait_for(exchange, POLLIN);
+        ssize_t bytes;
+
+        if (end != EXCHANGE_WELL)
+            return end;
+        /* Should descriptors come with the bytes, they are not taken: there is no room for them. */
+        bytes = recvmsg(exchange->descriptor, &message, MSG_DONTWAIT | MSG_CMSG_CLOEXEC);
+        if (bytes > 0) {
+            *taken = (size_t)bytes;
+            return EXCHANGE_WELL;
+        }
+        if (bytes == 0 || (errno != EAGAIN && errno != EINTR))
+            return EXCHANGE_BROKEN;
+    }
+}
+
+/* The length of the reply, with what came of its text. */
+static enum exchange_end receive_front(struct exchange *exchange, char *text, size_t room)
+{
+    unsigned char header[4];
+    size_t have = 0;
+
+    while (have < sizeof header) {
+        struct iovec parts[2] = {
+            { .iov_base = header + have, .iov_len = sizeof header - have },
+            { .iov_base = text, .iov_len = room },
+        };
+        size_t taken = 0;
+        enum exchange_end end = receive(exchange, parts, 2, &taken);
+
+        if (end != EXCHANGE_WELL)
+            return end;
+        have += taken;
+    }
+    for (size_t i = 0; i < sizeof header; i++)
+        exchange->length = exchange->length << 8 | header[i];
+    exchange->received = have - sizeof header;
+    if (exchange->length > LONGEST_REPLY || exchange->received > exchange->length)
+        return EXCHANGE_BROKEN;
+    return EXCHANGE_WELL;
+}
+
+enum exchange_end exchange_open(struct exchange *exchange, const struct request *request, char *text, size_t room)
+{
+    enum exchange_end end;
+
+    *exchange = (struct exchange){ .descriptor = -1 };
+    exchange->deadline = monotonic_now() + BIXETHOMI_QUESTION_SECONDS * nanoseconds_of_second;
+    pthread_setcancelstate(PTHREAD_CANCEL_DISABLE, &exchange->cancel_state);
+    exchange->descriptor = above_standard_streams(socket(AF_UNIX, SOCK_STREAM | SOCK_CLOEXEC, 0));
+    if (exchange->descriptor < 0)
+        return EXCHANGE_STARVED;
+    end = connect_to_daemon(exchange->descriptor);
+    if (end == EXCHANGE_WELL && is_own_socket(exchange->descriptor))
+        end = EXCHANGE_NO_DAEMON;
+    if (end == EXCHANGE_WELL)
+        end = send_request(exchange, request);
+    return end == EXCHANGE_WELL ? receive_front(exchange, text, room) : end;
+}
+
+enum exchange_end exchange_take(struct exchange *exchange, char *piece, size_t room, size_t *taken)
+{
+    size_t left = exchange->length - exchange->received;
+    struct iovec part = { .iov_base = piece, .iov_len = room < left ? room : left };
+    enum exchange_end end = receive(exchange, &part, 1, taken);
+
+    if (end == EXCHANGE_WELL)
+        exchange->received += *taken;
+    return end;
+}
+
+enum exchange_end exchange_fill(struct exchange *exchange, char *text, size_t wanted)
+{
+    while (exchange->received < wanted) {
+        size_t taken = 0;
+        enum exchange_end end = exchange_take(exchange, text + exchange->received, wanted - exchange->received, &taken);
+
+        if (end != EXCHANGE_WELL)
+            return end;
+    }
+    return EXCHANGE_WELL;
+}
+
+void exchange_close(struct exchange *exchange)
+{
+    int ignored;
+
+    if (exchange->descriptor >= 0)
+        close(exchange->descriptor);
+    exchange->descriptor = -1;
+    pthread_setcancelstate(exchange->cancel_state, &ignored);
+}

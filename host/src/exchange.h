@@ -1,0 +1,44 @@
+/* One question to the daemon over its public socket: a connection of its own, one request, one reply.
+ * Every wait has a bound, no signal is raised by a closed socket, and the descriptor is not handed to
+ * programs that are started meanwhile. */
+#ifndef BIXETHOMI_EXCHANGE_H
+#define BIXETHOMI_EXCHANGE_H
+
+#include <stdbool.h>
+#include <stddef.h>
+#include <stdint.h>
+
+#include "frames.h"
+
+enum exchange_end {
+    EXCHANGE_WELL,
+    EXCHANGE_NO_DAEMON, /* nobody listens, or the process is the daemon itself */
+    EXCHANGE_LATE,      /* a bound has passed */
+    EXCHANGE_BROKEN,    /* the daemon ended the connection, or what it sends begins no reply */
+    EXCHANGE_STARVED    /* this process, or the system, has no descriptor or no memory to give */
+};
+
+struct exchange {
+    int descriptor; /* below 0 where there is none */
+    int cancel_state;
+    int64_t deadline; /* nanoseconds of the monotonic clock */
+    size_t length;    /* of the reply's text, in bytes, at most LONGEST_REPLY */
+    size_t received;  /* of these */
+};
+
+/* Connects, sends the request, and takes the reply's length with as much of its text as came with it,
+ * at most `room` bytes. A thread cannot be cancelled from here to `exchange_close`, which has to
+ * follow however this ends. */
+enum exchange_end exchange_open(struct exchange *exchange, const struct request *request, char *text, size_t room);
+
+/* Takes one more piece of the text, at most `room` bytes and none behind the text's end; its size goes
+ * to `taken` and is not 0. Text has to be left, and `room` is not 0. */
+enum exchange_end exchange_take(struct exchange *exchange, char *piece, size_t room, size_t *taken);
+
+/* Takes the text up to `wanted` bytes, which are at most its length, into `text`, whose front has
+ * what was received before. */
+enum exchange_end exchange_fill(struct exchange *exchange, char *text, size_t wanted);
+
+void exchange_close(struct exchange *exchange);
+
+#endif

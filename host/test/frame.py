@@ -1,0 +1,46 @@
+#!/usr/bin/env python3
+"""frame.py SOCKET WORD [TEXT..]: sends one request as the daemon's frames have it, and prints the reply.
+
+WORD is user, uid, group, gid, groups, login, access, void-all, offline, online or stop. After `stop` it connects
+once more, so that a daemon which waits for a connection sees that it is to end."""
+import socket
+import struct
+import sys
+
+COMMANDS = {"user": 1, "uid": 2, "group": 3, "gid": 4, "groups": 5, "login": 16, "access": 17,
+            "void-all": 32, "offline": 33, "online": 34, "stop": 35}
+
+
+def field(word, text):
+    if word in ("uid", "gid"):
+        return struct.pack(">I", int(text))
+    return struct.pack(">H", len(text.encode())) + text.encode()
+
+
+def exact(connection, count):
+    have = b""
+    while len(have) < count:
+        more = connection.recv(count - len(have))
+        if not more:
+            sys.exit("no reply")
+        have += more
+    return have
+
+
+def main():
+    path, word, *texts = sys.argv[1:]
+    body = bytes([COMMANDS[word]]) + b"".join(field(word, text) for text in texts)
+    if word == "void-all":
+        body += b"\0"
+    with socket.socket(socket.AF_UNIX) as connection:
+        connection.settimeout(10)
+        connection.connect(path)
+        connection.sendall(struct.pack(">I", len(body)) + body)
+        length = struct.unpack(">I", exact(connection, 4))[0]
+        print(exact(connection, length).decode("utf-8", "replace"))
+    if word == "stop":
+        with socket.socket(socket.AF_UNIX) as connection:
+            connection.connect_ex(path)
+
+
+main()
