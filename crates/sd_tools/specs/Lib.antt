@@ -1,0 +1,5 @@
+pub mod Queries
+pub mod Options
+pub mod Replies
+pub mod Lines
+pub mod Endings
