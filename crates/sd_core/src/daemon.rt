@@ -8,6 +8,7 @@ ghost use Rattle.sd_core.specs.Growth as growth;
 ghost use Rattle.sd_core.specs.Laws as laws;
 ghost use Rattle.sd_core.specs.Looks as looks;
 ghost use Rattle.sd_core.specs.Opens as opens;
+ghost use Rattle.sd_core.specs.Sound as sound;
 
 use crate::plain::{Look, OpenFault, PlainCore};
 use sd_base::Memory;
@@ -60,6 +61,15 @@ impl Core {
         ensures texts { IfOk result (λ rows. sum_by bytes.bytes_of_row rows ≤ 512 * 1024 * 1024) }
     {
         self.plain.kept()
+    }
+
+    /// The number of the next entry.
+    pub fn next_number(&self) -> u64
+        ensures number { result ≡ self.now.next }
+        ensures kept { laws.IsKept self.now }
+        ensures sound { sound.IsSound self.now }
+    {
+        self.plain.next_number()
     }
 
     /// What a ticket waits for. It makes no entry and takes no memory.
