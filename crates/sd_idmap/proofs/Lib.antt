@@ -1,0 +1,13 @@
+pub mod Texts
+pub mod RunLaws
+pub mod Blocks
+pub mod Spelled
+pub mod Complete
+pub mod Whole
+pub mod Apart
+pub mod Pigeons
+pub mod Tables
+pub mod Calls
+pub mod Walk
+pub mod Pieces
+pub mod Statuses

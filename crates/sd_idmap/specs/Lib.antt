@@ -1,0 +1,10 @@
+pub mod Sids
+pub mod Grammar
+pub mod Reading
+pub mod Hash
+pub mod Slicing
+pub mod Keeping
+pub mod Laws
+pub mod Lines
+pub mod Transcript
+pub mod Endings
