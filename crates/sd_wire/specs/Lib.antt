@@ -5,3 +5,5 @@ pub mod SaidTexts
 pub mod EventTexts
 pub mod ReplyTexts
 pub mod EntryLines
+pub mod Frames
+pub mod Framing
