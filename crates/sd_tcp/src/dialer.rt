@@ -1,11 +1,11 @@
 //! Makes connections to the servers of a configuration.
-ghost use Rattle.std.specs.Prelude.{◌≡◌, None};
+ghost use Rattle.std.specs.Prelude.{◌≡◌, IfOk, None};
 
 use crate::link::TcpLink;
 use sd_base::{Memory, Text};
 use sd_conf::{Server, ServerList};
 use sd_dial::Dialer;
-use sd_link::LinkFailed;
+use sd_link::{Link, LinkFailed};
 use std::io;
 use std::io::ErrorKind;
 use std::net::{Net, SocketAddr, TcpStream, ToSocketAddrs};
@@ -60,7 +60,9 @@ impl<'r, R: Net + Clock> TcpDialer<'r, R> {
         }
     }
 
-    fn open(&self, server: u32) -> io::Result<TcpLink<'r, R>> {
+    fn open(&self, server: u32) -> io::Result<TcpLink<'r, R>>
+        ensures { IfOk result (λ line. ⟦<TcpLink<'r, R> as Link>⟧.faults line ≡ 0) }
+    {
         let Some(Server { host, port }) = self.servers.get(server as usize) else {
             return Err(io::Error::from(ErrorKind::NotFound));
         };

@@ -47,7 +47,9 @@ fn read_some(stream: &mut impl Read, buf: &mut [u8]) -> io::Result<usize>
 
 impl<'r, R: Net + Clock> TcpLink<'r, R> {
     /// A link over a stream that was connected just now. Small pieces are sent at once.
-    pub(crate) fn over(clock: &'r R, stream: R::Stream) -> io::Result<TcpLink<'r, R>> {
+    pub(crate) fn over(clock: &'r R, stream: R::Stream) -> io::Result<TcpLink<'r, R>>
+        ensures { IfOk result (λ link. ⟦<TcpLink<'r, R> as Link>⟧.faults link ≡ 0) }
+    {
         stream.set_nodelay(true)?;
         let opened = Instant::now(clock)?;
         Ok(TcpLink {
@@ -58,7 +60,9 @@ impl<'r, R: Net + Clock> TcpLink<'r, R> {
         })
     }
 
-    fn write_whole(&mut self, bytes: &[u8]) -> io::Result<()> {
+    fn write_whole(&mut self, bytes: &[u8]) -> io::Result<()>
+        ensures { ⟦<TcpLink<'r, R> as Link>⟧.faults self.new ≡ ⟦<TcpLink<'r, R> as Link>⟧.faults self.old }
+    {
         let begun = Instant::now(self.clock)?;
         let mut at = 0;
         while at < bytes.len() {
@@ -76,6 +80,7 @@ impl<'r, R: Net + Clock> TcpLink<'r, R> {
     fn read_in_time(&mut self, buf: &mut [u8]) -> io::Result<usize>
         ensures bound { ReadsAtMost result buf.new }
         ensures some { IfOk result (λ n. 0 < n) }
+        ensures faults { ⟦<TcpLink<'r, R> as Link>⟧.faults self.new ≡ ⟦<TcpLink<'r, R> as Link>⟧.faults self.old }
     {
         let left = time_left(self.clock, &self.opened, LINK_SECONDS)?;
         let wait = left.min(Duration::from_secs(CALL_SECONDS));
@@ -142,7 +147,7 @@ impl<'r, R: Net + Clock> DirectoryLink for TcpLink<'r, R> {
 
     ghost keeps = { λ before after piece went. refl };
 
-    ghost tells_pieces = { λ link some. refl };
+    ghost tells_pieces = { λ link some. some };
 
     ghost tells_coming = { λ link told e. Prim.cc };
 

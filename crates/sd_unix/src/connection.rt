@@ -52,7 +52,9 @@ impl ClientSource {
     }
 
     /// Goes on behind these bytes; the next wait is as long as its place allows.
-    fn go_behind(&mut self, bytes: &[u8]) -> io::Result<()> {
+    fn go_behind(&mut self, bytes: &[u8]) -> io::Result<()>
+        ensures { ⟦<ClientSource as Source>⟧.faults self.new ≡ ⟦<ClientSource as Source>⟧.faults self.old }
+    {
         if self.visitor == Visitor::Anyone && self.place.has_reserved(bytes) {
             return Err(io::Error::from(ErrorKind::PermissionDenied));
         }
@@ -65,7 +67,8 @@ impl ClientSource {
     }
 
     fn read(&mut self, buf: &mut [u8]) -> io::Result<usize>
-        ensures { ReadsAtMost result buf.new }
+        ensures bound { ReadsAtMost result buf.new }
+        ensures faults { ⟦<ClientSource as Source>⟧.faults self.new ≡ ⟦<ClientSource as Source>⟧.faults self.old }
     {
         let count = self.stream.read(buf)?;
         self.go_behind(&buf[..count])?;
