@@ -5,6 +5,7 @@ ghost use Rattle.sd_rules.specs.Steps as steps;
 ghost use Rattle.sd_core.specs.Growth as growth;
 ghost use Rattle.sd_core.specs.Laws as laws;
 ghost use Rattle.sd_core.specs.Looks as looks;
+ghost use Rattle.sd_core.specs.Sound as sound;
 
 use crate::plain::{Look, PlainCore};
 use sd_rules::{Event, Given, Journal, Refused, Settings, StepFault};
@@ -44,6 +45,15 @@ impl Core {
         ensures { reverse result.now ≡ self.now.past }
     {
         self.plain.journal()
+    }
+
+    /// The number of the next entry.
+    pub fn next_number(&self) -> u64
+        ensures number { result ≡ self.now.next }
+        ensures kept { laws.IsKept self.now }
+        ensures sound { sound.IsSound self.now }
+    {
+        self.plain.next_number()
     }
 
     /// What a ticket waits for. It makes no entry and takes no memory.

@@ -146,8 +146,10 @@ impl PlainCore {
 
     /// The number of the next entry.
     #[tactic(auto, using(crate::proofs::Room::next_is_above))]
-    fn next_number(&self) -> u64
-        ensures { result ≡ steps.next_number self.now }
+    pub fn next_number(&self) -> u64
+        ensures number { result ≡ steps.next_number self.now }
+        ensures next { result ≡ self.now.next }
+        ensures sound { sound.IsSound self.now }
     {
         self.next
     }

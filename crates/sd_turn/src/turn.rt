@@ -12,6 +12,7 @@ use std::hint::spin_loop;
 use std::marker::Brand;
 use std::snapshot::Snapshot;
 use std::sync::Wait;
+use std::sync::atomic::{AtomicU64, Ordering};
 use std::time::Duration;
 
 /// The turn word while no seat holds the turn.
@@ -27,13 +28,20 @@ const COUNT: usize = 1;
 
 const VALUE: usize = 0;
 
-/// How often `take` tries before it sleeps between two tries.
-const SPINS: u32 = 100;
+/// How often `take` tries before it naps between two tries.
+const SPINS: u32 = 8;
+
+/// How often it naps before it sleeps until it is woken.
+const NAPS: u32 = 4;
 
 /// A value that one seat at a time may take.
 #[derive(Drop)]
 pub struct Turn<V: Chronicle> {
     table: Table<Option<V>, View<V::Entry, V::Setting>, Snapshot<V>, TurnRule<V>, Global>,
+    // How many threads sleep, or are about to, until the turn is free.
+    waiting: AtomicU64,
+    // How many threads sleep, or are about to, until an entry is appended.
+    resting: AtomicU64,
     ghost sized: { (table.shared.table_id.words ≡ 2) × (table.shared.table_id.slots ≡ 1) },
 }
 
@@ -87,7 +95,14 @@ impl<V: Chronicle> Turn<V> {
         let Ok((table, seat)) = Table::new(alloc, &[FREE, next - 1], slots, &about) else {
             return Err(Memory);
         };
-        Ok((Turn { table }, Seat { seat, next }))
+        Ok((
+            Turn {
+                table,
+                waiting: AtomicU64::new(0),
+                resting: AtomicU64::new(0),
+            },
+            Seat { seat, next },
+        ))
     }
 
     /// Tries once to take the turn, and waits for nobody.
@@ -122,7 +137,8 @@ impl<V: Chronicle> Turn<V> {
 
     /// Takes the turn, however often it has to try.
     ///
-    /// Between two tries it spins a little at first. Later it sleeps, for a microsecond and then longer, up to a millisecond.
+    /// Between two tries it looks at the turn word for a little while at first, then it naps for some microseconds, and
+    /// then it sleeps until a seat that gives the turn back wakes it.
     pub fn take<R: Wait>(&self, rt: &R, seat: &mut Seat<V>) -> Held<V>
         requires own { IsOwn self.now seat.old }
         requires free { HoldsNoTurn seat.old }
@@ -148,14 +164,44 @@ impl<V: Chronicle> Turn<V> {
         unreachable!()
     }
 
-    /// Lets a moment pass after so many tries in vain. A sleep ends early where the turn is free.
+    // No system call where nobody rests.
+    fn wake_rested(&self) {
+        if self.resting.load(Ordering::SeqCst) > 0 {
+            self.table.shared.wake_one(COUNT);
+        }
+    }
+
+    // No system call where nobody sleeps until the turn is free.
+    fn wake_waiting(&self) {
+        if self.waiting.load(Ordering::SeqCst) > 0 {
+            self.table.shared.wake_one(TURN);
+        }
+    }
+
+    /// Lets a moment pass after so many tries in vain: it spins, then it naps, then it sleeps until it is woken.
     fn pause<R: Wait>(&self, rt: &R, tries: u32) {
         if tries < SPINS {
-            spin_loop();
+            self.spin(tries);
             return;
         }
-        let nap = Duration::from_micros(1 << (tries - SPINS).min(10));
-        self.table.shared.park_timeout(rt, TURN, TAKEN as u32, nap);
+        if tries < SPINS + NAPS {
+            let nap = Duration::from_micros(1 << (tries - SPINS));
+            self.table.shared.park_timeout(rt, TURN, TAKEN as u32, nap);
+            return;
+        }
+        self.waiting.fetch_add(1, Ordering::SeqCst);
+        self.table.shared.park(rt, TURN, TAKEN as u32);
+        self.waiting.fetch_sub(1, Ordering::SeqCst);
+    }
+
+    // Only reads the turn word, so that the holder's cache line is left alone.
+    fn spin(&self, tries: u32) {
+        for _ in 0..1 << tries.min(6) {
+            if self.table.shared.peek(TURN) == FREE {
+                return;
+            }
+            spin_loop();
+        }
     }
 
     /// Gives the entry that was put behind the held history its number, and wakes one seat that rests.
@@ -182,7 +228,7 @@ impl<V: Chronicle> Turn<V> {
         // The held value has a next number, so the count word does not wrap.
         held.value.next_number();
         self.count::<Brand>(seat, held);
-        self.table.shared.wake_one(COUNT);
+        self.wake_rested();
     }
 
     // The entry that J has, the only one, becomes the seat's own. The proof of a call picks it from `_held`.
@@ -207,7 +253,7 @@ impl<V: Chronicle> Turn<V> {
             .fetch_add::<Count<V, J>>(&mut seat.seat, COUNT, 1);
     }
 
-    /// Gives the turn back, with the value. Its history is then the seat's front.
+    /// Gives the turn back, with the value, and wakes one seat that sleeps in `take`. The value's history is then the seat's front.
     pub fn give(&self, seat: &mut Seat<V>, held: Held<V>)
         requires own { IsOwn self.now seat.old }
         requires holds { HoldsTurn seat.old }
@@ -228,6 +274,7 @@ impl<V: Chronicle> Turn<V> {
         shared.exchange(&mut seat.seat, VALUE, Some(held.value));
         shared.store::<Give<V>>(&mut seat.seat, TURN, FREE);
         seat.next = next;
+        self.wake_waiting();
     }
 
     /// A new seat with the same front, and no entries of its own.
@@ -286,9 +333,11 @@ impl<V: Chronicle> Turn<V> {
             if count != behind {
                 return;
             }
+            self.resting.fetch_add(1, Ordering::SeqCst);
             self.table
                 .shared
                 .park(rt, COUNT, (count % (1 << 32)) as u32);
+            self.resting.fetch_sub(1, Ordering::SeqCst);
         }
         unreachable!()
     }
@@ -318,7 +367,11 @@ impl<V: Chronicle> Turn<V> {
         ensures all { name seat ≡ [] → out seat ≡ [] → IfOk result (λ value.
             AreAllBetween (V.history (opening self)).next (V.history value).next (map V.number (mine seat))) }
     {
-        let Turn { table } = self;
+        let Turn {
+            table,
+            waiting: _,
+            resting: _,
+        } = self;
         let Seat { seat, next: _ } = seat;
         let mut closed = table.close_with(seat);
         let found = closed.word(TURN);

@@ -1,0 +1,5 @@
+pub mod Journals
+pub mod Texts
+pub mod Reached
+pub mod Counted
+pub mod Made

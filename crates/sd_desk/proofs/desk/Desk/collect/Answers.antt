@@ -1,0 +1,42 @@
+use Rattle.std.proofs.Common.{rules, ◌≡◌, ℕ, List, sym, ap, subst, ◌∙◌}
+use Rattle.sd_rules.specs.declared.events.Event.TheVariants.{Collect}
+use Rattle.sd_rules.specs.declared.replies.Entry.{Entry}
+use Rattle.sd_rules.specs.Steps.{Daemon}
+use Rattle.sd_rules.specs.Reaching.{Reaches}
+use Rattle.sd_rules.specs.Requests.{waits_for}
+use Rattle.sd_core.specs.declared.plain.Look.TheVariants.{Running}
+use Rattle.sd_core.specs.Looks.{look_of}
+use Rattle.sd_desk.specs.declared.shared.SharedCore.{SharedCore}
+use Rattle.sd_desk.specs.Desks.{front, mine, found}
+use Rattle.sd_desk.specs.Steps.{MadeOver, WasFull, IsPending}
+use Rattle.sd_desk.proofs.Made.{pending_runs, full_waits_not, full_was}
+use Rattle.sd_desk.proofs.desk.Desk.collect.Goals as goal
+
+pub returns-in-Ok-step_held-clause-made : goal.returns-in-Ok-step_held-clause-made
+returns-in-Ok-step_held-clause-made c =
+    let same : c.value.result.now.core ≡ c.in-Ok.held.value.core = ap (λ (v : SharedCore). v.core) c.value.ensures.value in
+    let reached = subst (λ (f : Daemon). Reaches f c.in-Ok.held.value.core) c.in-Ok.ensures.front c.in-Ok.ensures.holds.reached in
+    record {
+      before = c.value.result.now.core;
+      reached = subst (λ (d : Daemon). Reaches (front c.args.self.now c.args.seat.now) d) (sym same) reached;
+      made = subst (λ (es : List Entry). MadeOver c.value.result.now.core (front c.args.self.now c.step_held.new.seat) es (mine c.step_held.new.seat) c.args.now (Collect c.args.ticket) c.in-Ok-step_held.given)
+          c.in-Ok.ensures.mine c.in-Ok-step_held.ensures.made;
+      ready = λ r p. c.in_default-look.not-Running r (c.look.ensures ∙ pending_runs c.value.result.now.core.past c.args.ticket r p);
+    }
+
+pub returns-in-Err-clause-full : goal.returns-in-Err-clause-full
+returns-in-Err-clause-full c n is =
+    let full : WasFull c.value.result.now.core (Collect c.args.ticket) n = c.in-Err.ensures.full n (full_was c.in-Err.refused.fault n (sym c.from.ensures ∙ is)) in
+    let none : waits_for c.value.result.now.core.past c.args.ticket ≡ _ = full_waits_not c.value.result.now.core c.args.ticket n full
+    (λ r runs. c.in_default-look.not-Running r (c.look.ensures ∙ runs)) in
+    let won : found c.step_held.new.seat ≡ 0 = search rules in (
+      won,
+      subst (λ (d : Daemon). WasFull d (Collect c.args.ticket) n) (sym c.in-Err.ensures.front) full,
+      ap (λ (d : Daemon). waits_for d.past c.args.ticket) c.in-Err.ensures.front ∙ none,
+    )
+
+pub returns-in-Err-clause-pending_only : goal.returns-in-Err-clause-pending_only
+returns-in-Err-clause-pending_only c won r p =
+    let at : front c.args.self.now c.step_held.new.seat ≡ c.value.result.now.core = c.in-Err.ensures.front in
+    let q = subst (λ (d : Daemon). IsPending d.past c.args.ticket r) at p in
+    absurd (c.in_default-look.not-Running r (c.look.ensures ∙ pending_runs c.value.result.now.core.past c.args.ticket r q))

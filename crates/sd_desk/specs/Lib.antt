@@ -1,0 +1,6 @@
+pub mod Journals
+pub mod Counts
+pub mod Faults
+pub mod Steps
+pub mod Desks
+pub mod Holding

@@ -1,0 +1,89 @@
+//! The core, as the turn shares it.
+ghost use Rattle.std.specs.Prelude.{◌≡◌, ℕ, ◌<◌, true, false, IfOk, IfErr, OnOk, OnErr, length};
+ghost use Rattle.sd_rules.specs.Reaching as reaching;
+ghost use Rattle.sd_rules.specs.Steps as steps;
+ghost use Rattle.sd_core.specs.Laws as laws;
+ghost use Rattle.sd_desk.specs.Steps.{HasBoundedTexts, WasFull};
+
+use crate::counts::Counts;
+use sd_core::Core;
+use sd_rules::{Entry, Event, Given, Refused, Settings, StepFault};
+use sd_turn::Chronicle;
+
+/// What no step and no forget changes. Contracts alone read it: no value is made.
+pub struct Basis {
+    pub settings: Settings,
+    /// The moment that every entry has at least, in seconds.
+    pub floor: u64,
+}
+
+/// A core whose journal is a history of numbered entries.
+#[derive(Drop)]
+pub struct SharedCore {
+    pub(crate) core: Core,
+    /// How many entries the last forget left; at first, how many the core came with.
+    pub(crate) left: usize,
+    ghost above: { 0 < core.next },
+}
+
+impl Chronicle for SharedCore {
+    ghost use Rattle.sd_core.specs.Laws.{IsKept};
+    ghost use Rattle.sd_rules.specs.Reaching.{Reaches};
+    ghost use Rattle.sd_rules.proofs.ReachingLaws.{reaches_self, reaches_through};
+    ghost use Rattle.sd_desk.specs.Journals.{basis_of, history_of, daemon_of};
+
+    type Entry = Entry;
+
+    type Setting = Basis;
+
+    ghost setting = { λ v. basis_of v.core };
+
+    ghost history = { λ v. history_of v.core };
+
+    ghost number = { λ e. e.number };
+
+    ghost follows = { λ b x y. Reaches (daemon_of b x) (daemon_of b y) };
+
+    ghost fits = { λ b x. IsKept (daemon_of b x) };
+
+    fn next_number(&self) -> u64 {
+        self.core.next_number()
+    }
+
+    ghost follows_itself = { λ b x. reaches_self (daemon_of b x) };
+
+    ghost follows_through = { λ b x y z p q. reaches_through (daemon_of b x) (daemon_of b y) (daemon_of b z) p q };
+}
+
+impl SharedCore {
+    /// What a seat that gives this core back knows of its journal.
+    pub(crate) fn counts(&self) -> Counts
+        ensures next { result.next ≡ self.now.core.next }
+        ensures entries { result.entries ≡ length self.now.core.past }
+        ensures left { result.left ≡ self.now.left }
+    {
+        Counts {
+            next: self.core.next_number(),
+            entries: self.core.journal().len(),
+            left: self.left,
+        }
+    }
+
+    /// One step of the core.
+    pub(crate) fn step(&mut self, now: u64, event: Event) -> Result<Given, Refused>
+        requires { steps.is_steppable self.old.core.past event ≡ true }
+        ensures made { OnOk result (self.new.core ≡ steps.after self.old.core now event) }
+        ensures given { IfOk result (λ given. given ≡ steps.given self.old.core now event) }
+        ensures room { OnOk result (steps.is_full self.old.core event ≡ false) }
+        ensures full { IfErr result (λ refused. (n : ℕ) → refused.fault ≡ StepFault.JournalFull n → WasFull self.old.core event n) }
+        ensures back { IfErr result (λ refused. refused.event ≡ event) }
+        ensures unchanged { OnErr result (self.new.core ≡ self.old.core) }
+        ensures laws { IfOk result (laws.FollowsLaws self.old.core now event) }
+        ensures texts { IfOk result (HasBoundedTexts event) }
+        ensures reached { reaching.Reaches self.old.core self.new.core }
+    {
+        // The core's texts are bounded, and so are those of what it gives.
+        self.core.next_number();
+        self.core.step(now, event)
+    }
+}
