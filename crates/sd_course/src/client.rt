@@ -76,6 +76,12 @@ impl Client {
         }
     }
 
+    /// Lets it go.
+    pub fn discard(self) {
+        let Client { salts: _, task } = self;
+        task.discard();
+    }
+
     /// What it needs next. What is to be told counts as told from here on.
     pub fn need(&mut self) -> Result<Need, Memory>
         ensures need { IfOk result (λ need. need ≡ courses.need_of self.old) }

@@ -59,7 +59,27 @@ impl Task for ClientTask {
     }
 }
 
+// A task of each kind is let go in a function of its own.
+
+fn discard_lookup(_task: NssTask) {}
+
+fn discard_login(_task: LoginTask) {}
+
+fn discard_check(_task: AccessTask) {}
+
+fn discard_order(_task: AdminTask) {}
+
 impl ClientTask {
+    /// Lets it go.
+    pub fn discard(self) {
+        match self {
+            ClientTask::LookUp(task) => discard_lookup(task),
+            ClientTask::LogIn(task) => discard_login(task),
+            ClientTask::Check(task) => discard_check(task),
+            ClientTask::Administer(task) => discard_order(task),
+        }
+    }
+
     /// What is needed next, by the task as it is seen.
     pub fn ask(&mut self, _salts: &Salts) -> Result<Need, Memory>
         requires { courses.script self.old ≡ courses.script_of _salts.now (courses.seen self.old) }

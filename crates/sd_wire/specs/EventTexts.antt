@@ -1,11 +1,10 @@
 -- The texts of events, as a journal's lines have them.
-use Rattle.std.specs.Prelude.{ℕ, Bool, true, false, ◌++◌, codes, List, [], Option, Some, None}
+use Rattle.std.specs.Prelude.{ℕ, Bool, true, false, ◌++◌, codes, List, []}
 use Rattle.std.specs.Fmt.{decimal}
 use Rattle.sd_base.specs.declared.Why.{Why}
 use Rattle.sd_base.specs.declared.Why.TheVariants as whys
 use Rattle.sd_rules.specs.declared.events.Event.{Event}
 use Rattle.sd_rules.specs.declared.events.Event.TheVariants as events
-use Rattle.sd_rules.specs.declared.events.Hash.{Hash}
 use Rattle.sd_rules.specs.declared.events.LoginResult.{LoginResult}
 use Rattle.sd_rules.specs.declared.events.LoginResult.TheVariants as results
 use Rattle.sd_rules.specs.declared.events.Refusal.{Refusal}

@@ -1,5 +1,5 @@
 -- The forms that printed texts have: a word with numbers behind it, or a number within words.
-use Rattle.std.specs.Prelude.{ℕ, ◌++◌, codes, List}
+use Rattle.std.specs.Prelude.{◌≡◌, ℕ, ◌++◌, codes, List, length, take}
 use Rattle.std.specs.Fmt.{decimal}
 use Rattle.sd_wire.specs.Escapes.{field}
 
@@ -18,3 +18,7 @@ numbered_within word n words = word ++ (decimal n ++ words)
 -- a word and a field
 abbrev pub worded : List ℕ → List ℕ → List ℕ
 worded word name = word ++ field name
+
+-- what stood in a buffer still stands in its front
+abbrev pub Keeps : List ℕ → List ℕ → Type 0
+Keeps old new = take (length old) new ≡ old

@@ -1,5 +1,5 @@
 -- Requests as bytes: which bytes are the frame of which request.
-use Rattle.std.specs.Prelude.{◌≡◌, ◌≢◌, ℕ, Bool, true, false, not, ◌&&◌, ◌==◌, ◌+◌, ◌^◌, ◌<◌, ◌≤◌, ◌⊎◌, nat_lt, nat_le, ◌++◌, List, [], ◌∷◌, length, take}
+use Rattle.std.specs.Prelude.{◌≡◌, ℕ, Bool, true, false, not, ◌&&◌, ◌==◌, ◌+◌, ◌-◌, ◌^◌, ◌<◌, ◌≤◌, ◌⊎◌, nat_le, ◌++◌, List, [], ◌∷◌, length, take, drop}
 use Rattle.std.specs.Int.{w16, w32, to_be_bytes, from_be_bytes}
 use Rattle.sd_rules.specs.declared.keys.What.{What}
 use Rattle.sd_rules.specs.declared.keys.What.TheVariants as whats
@@ -117,3 +117,11 @@ SaysOf (framings.Frame request used) bytes = IsCarried request × BeginsWith byt
 SaysOf framings.More bytes = IsCut bytes
 SaysOf framings.Bad bytes = IsBad bytes
 SaysOf framings.Memory bytes = Unit {0}
+
+-- a frame whose length was left open, from a place on: its length is that of what is behind it
+abbrev pub ended : ℕ → List ℕ → List ℕ
+ended place bytes = take place bytes ++ (to_be_bytes w32 (length bytes - (place + 4)) ++ drop (place + 4) bytes)
+
+-- the frame of a reply: the length of its text in four octets, the highest first, and the text
+abbrev pub reply_of : List ℕ → List ℕ
+reply_of text = to_be_bytes w32 (length text) ++ text

@@ -1,10 +1,10 @@
 -- Reading requests: the request that bytes begin with, as a function of the bytes.
-use Rattle.std.specs.Prelude.{◌≡◌, ℕ, ◌&&◌, ◌==◌, ◌+◌, nat_lt, List, [], ◌∷◌, length, take, drop, Option, Some, None, if◌then◌else◌}
+use Rattle.std.specs.Prelude.{◌≡◌, ℕ, ◌&&◌, ◌==◌, ◌+◌, ◌++◌, nat_lt, List, [], ◌∷◌, length, take, drop, Option, Some, None, if◌then◌else◌}
 use Rattle.std.specs.Option.{option_map}
 use Rattle.std.specs.Int.{w16, w32, from_be_bytes}
 use Rattle.sd_rules.specs.declared.keys.What.{What}
 use Rattle.sd_rules.specs.declared.keys.What.TheVariants as whats
-use Rattle.sd_wire.specs.Frames.{is_name, is_password}
+use Rattle.sd_wire.specs.Frames.{is_name, is_password, IsCarried, frame_of}
 use Rattle.sd_wire.specs.declared.requests.Request.{Request}
 use Rattle.sd_wire.specs.declared.requests.Request.TheVariants as requests
 use Rattle.sd_wire.specs.declared.frames.Framed.{Framed}
@@ -123,3 +123,8 @@ Reads framings.Memory expected = Unit {0}
 Reads (framings.Frame request used) expected = expected ≡ framings.Frame request used
 Reads framings.More expected = expected ≡ framings.More
 Reads framings.Bad expected = expected ≡ framings.Bad
+
+-- the frame of a request is read as that request, whatever follows it
+abbrev pub ReadsBack : Type 0
+ReadsBack =
+    (request : Request) (more : List ℕ) → IsCarried request → framed (frame_of request ++ more) ≡ framings.Frame request (length (frame_of request))

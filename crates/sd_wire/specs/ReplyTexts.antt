@@ -1,5 +1,5 @@
 -- The texts of replies, as a journal's lines have them.
-use Rattle.std.specs.Prelude.{ℕ, ◌++◌, codes, List, [], Option, Some, None}
+use Rattle.std.specs.Prelude.{ℕ, ◌++◌, codes, List, []}
 use Rattle.sd_rules.specs.declared.events.Refusal.{Refusal}
 use Rattle.sd_rules.specs.declared.events.Refusal.TheVariants as refusals
 use Rattle.sd_rules.specs.declared.replies.By.{By}

@@ -9,7 +9,8 @@ use std::alloc::Global;
 
 /// Appends bytes.
 pub fn push_bytes(out: &mut Vec<u8>, bytes: &[u8]) -> Result<(), Memory>
-    ensures { OnOk result (out.new.items ≡ out.old.items ++ bytes.now) }
+    ensures ok { OnOk result (out.new.items ≡ out.old.items ++ bytes.now) }
+    ensures kept { forms.Keeps out.old.items out.new.items }
 {
     out.extend_from_slice(bytes)?;
     Ok(())
@@ -17,7 +18,8 @@ pub fn push_bytes(out: &mut Vec<u8>, bytes: &[u8]) -> Result<(), Memory>
 
 /// Appends a number in decimal.
 pub fn push_number(alloc: Global, out: &mut Vec<u8>, number: u64) -> Result<(), Memory>
-    ensures { OnOk result (out.new.items ≡ out.old.items ++ decimal number) }
+    ensures ok { OnOk result (out.new.items ≡ out.old.items ++ decimal number) }
+    ensures kept { forms.Keeps out.old.items out.new.items }
 {
     let digits = number.to_string(alloc)?;
     push_bytes(out, digits.as_bytes())
@@ -30,7 +32,8 @@ pub fn push_numbered(
     word: &[u8],
     number: u64,
 ) -> Result<(), Memory>
-    ensures { OnOk result (out.new.items ≡ out.old.items ++ forms.numbered word.now number) }
+    ensures ok { OnOk result (out.new.items ≡ out.old.items ++ forms.numbered word.now number) }
+    ensures kept { forms.Keeps out.old.items out.new.items }
 {
     push_bytes(out, word)?;
     push_number(alloc, out, number)
@@ -44,7 +47,8 @@ pub fn push_numbered_twice(
     number: u64,
     second: u64,
 ) -> Result<(), Memory>
-    ensures { OnOk result (out.new.items ≡ out.old.items ++ forms.numbered_twice word.now number second) }
+    ensures ok { OnOk result (out.new.items ≡ out.old.items ++ forms.numbered_twice word.now number second) }
+    ensures kept { forms.Keeps out.old.items out.new.items }
 {
     push_bytes(out, word)?;
     push_number(alloc, out, number)?;
@@ -60,7 +64,8 @@ pub fn push_numbered_within(
     number: u64,
     words: &[u8],
 ) -> Result<(), Memory>
-    ensures { OnOk result (out.new.items ≡ out.old.items ++ forms.numbered_within word.now number words.now) }
+    ensures ok { OnOk result (out.new.items ≡ out.old.items ++ forms.numbered_within word.now number words.now) }
+    ensures kept { forms.Keeps out.old.items out.new.items }
 {
     push_bytes(out, word)?;
     push_number(alloc, out, number)?;
@@ -87,13 +92,15 @@ fn hex_digit(value: u8) -> u8
 }
 
 fn push_escape(out: &mut Vec<u8>, byte: u8) -> Result<(), Memory>
-    ensures { OnOk result (out.new.items ≡ out.old.items ++ escapes.escape byte) }
+    ensures ok { OnOk result (out.new.items ≡ out.old.items ++ escapes.escape byte) }
+    ensures kept { forms.Keeps out.old.items out.new.items }
 {
     push_bytes(out, &[b'\\', hex_digit(byte / 16), hex_digit(byte % 16)])
 }
 
 fn push_byte_of_field(out: &mut Vec<u8>, byte: u8) -> Result<(), Memory>
-    ensures { OnOk result (out.new.items ≡ out.old.items ++ escapes.byte_of_field byte) }
+    ensures ok { OnOk result (out.new.items ≡ out.old.items ++ escapes.byte_of_field byte) }
+    ensures kept { forms.Keeps out.old.items out.new.items }
 {
     if is_escaped(byte) {
         push_escape(out, byte)
@@ -103,7 +110,8 @@ fn push_byte_of_field(out: &mut Vec<u8>, byte: u8) -> Result<(), Memory>
 }
 
 fn push_byte_of_name(out: &mut Vec<u8>, byte: u8) -> Result<(), Memory>
-    ensures { OnOk result (out.new.items ≡ out.old.items ++ escapes.byte_of_name byte) }
+    ensures ok { OnOk result (out.new.items ≡ out.old.items ++ escapes.byte_of_name byte) }
+    ensures kept { forms.Keeps out.old.items out.new.items }
 {
     if is_escaped_in_name(byte) {
         push_escape(out, byte)
@@ -114,7 +122,8 @@ fn push_byte_of_name(out: &mut Vec<u8>, byte: u8) -> Result<(), Memory>
 
 /// Appends a field.
 pub fn push_field(out: &mut Vec<u8>, field: &[u8]) -> Result<(), Memory>
-    ensures { OnOk result (out.new.items ≡ out.old.items ++ escapes.field field.now) }
+    ensures ok { OnOk result (out.new.items ≡ out.old.items ++ escapes.field field.now) }
+    ensures kept { forms.Keeps out.old.items out.new.items }
 {
     for byte in field {
         push_byte_of_field(out, *byte)?;
@@ -124,7 +133,8 @@ pub fn push_field(out: &mut Vec<u8>, field: &[u8]) -> Result<(), Memory>
 
 /// Appends the name of a member.
 pub fn push_member_name(out: &mut Vec<u8>, name: &[u8]) -> Result<(), Memory>
-    ensures { OnOk result (out.new.items ≡ out.old.items ++ escapes.member_name name.now) }
+    ensures ok { OnOk result (out.new.items ≡ out.old.items ++ escapes.member_name name.now) }
+    ensures kept { forms.Keeps out.old.items out.new.items }
 {
     for byte in name {
         push_byte_of_name(out, *byte)?;
@@ -134,7 +144,8 @@ pub fn push_member_name(out: &mut Vec<u8>, name: &[u8]) -> Result<(), Memory>
 
 /// Appends a word and a field.
 pub fn push_worded(out: &mut Vec<u8>, word: &[u8], field: &[u8]) -> Result<(), Memory>
-    ensures { OnOk result (out.new.items ≡ out.old.items ++ forms.worded word.now field.now) }
+    ensures ok { OnOk result (out.new.items ≡ out.old.items ++ forms.worded word.now field.now) }
+    ensures kept { forms.Keeps out.old.items out.new.items }
 {
     push_bytes(out, word)?;
     push_field(out, field)

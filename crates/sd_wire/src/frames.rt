@@ -35,7 +35,7 @@ fn number_of_two(octets: &[u8]) -> u16
 }
 
 /// The number that four octets spell, the first the highest.
-fn number_of_four(octets: &[u8]) -> u32
+pub fn number_of_four(octets: &[u8]) -> u32
     requires { length octets.now ≡ 4 }
     ensures { result ≡ from_be_bytes w32 octets.now }
 {
@@ -97,7 +97,11 @@ fn pair_alone(bytes: &[u8]) -> Option<(&[u8], &[u8])>
 fn number_alone(bytes: &[u8]) -> Option<u32>
     ensures { result ≡ framing.number_alone bytes.now }
 {
-    if bytes.len() == 4 { Some(number_of_four(bytes)) } else { None }
+    if bytes.len() == 4 {
+        Some(number_of_four(bytes))
+    } else {
+        None
+    }
 }
 
 fn name_in(alloc: Global, fields: &[u8]) -> Result<Option<Text>, Memory>
@@ -191,10 +195,9 @@ fn request_in(alloc: Global, body: &[u8]) -> Result<Option<Request>, Memory>
     }
 }
 
-/// The request that bytes begin with. Of a frame that is not whole nothing is copied.
-pub fn read_frame(alloc: Global, bytes: &[u8]) -> Framed
-    // The same as a function of the bytes, for those who read frame after frame.
-    ensures exact { framing.Reads result (framing.framed bytes.now) }
+/// The request that bytes begin with, as a function of the bytes.
+fn frame_in(alloc: Global, bytes: &[u8]) -> Framed
+    ensures { framing.Reads result (framing.framed bytes.now) }
 {
     if bytes.len() < 4 {
         return Framed::More;
@@ -213,3 +216,17 @@ pub fn read_frame(alloc: Global, bytes: &[u8]) -> Framed
         Err(Memory) => Framed::Memory,
     }
 }
+
+/// The request that bytes begin with. Of a frame that is not whole nothing is copied.
+pub fn read_frame(alloc: Global, bytes: &[u8]) -> Framed
+    ensures says { frames.SaysOf result bytes.now }
+    // The same as a function of the bytes, for those who read frame after frame.
+    ensures exact { framing.Reads result (framing.framed bytes.now) }
+{
+    frame_in(alloc, bytes)
+}
+
+/// The frame of a request is read back, whatever follows it: a law without code.
+pub fn reads_back()
+    ensures { framing.ReadsBack }
+{}

@@ -9,9 +9,11 @@ pub mod frames;
 pub mod records;
 pub mod replies;
 pub mod requests;
+pub mod sending;
 pub mod told;
 
 pub use entries::{print_entry, push_entry};
-pub use frames::{Framed, read_frame};
+pub use frames::{Framed, number_of_four, read_frame};
 pub use requests::Request;
+pub use sending::{write_frame, write_reply};
 pub use told::{print_line, push_line};

@@ -1,6 +1,7 @@
 // The lines of users, groups and the groups of a user.
 ghost use Rattle.std.specs.Prelude.{◌≡◌, ◌++◌, OnOk, IfOk};
 ghost use Rattle.sd_wire.specs.RecordLines as lines;
+ghost use Rattle.sd_wire.specs.Forms as forms;
 
 use crate::fields::{push_bytes, push_field, push_member_name, push_number};
 use sd_base::{Memory, Text};
@@ -8,7 +9,8 @@ use sd_rules::{Group, GroupRef, Groups, Record, User};
 use std::alloc::Global;
 
 fn push_head(out: &mut Vec<u8>, name: &[u8], pwfield: &[u8]) -> Result<(), Memory>
-    ensures { OnOk result (out.new.items ≡ out.old.items ++ lines.head name.now pwfield.now) }
+    ensures ok { OnOk result (out.new.items ≡ out.old.items ++ lines.head name.now pwfield.now) }
+    ensures kept { forms.Keeps out.old.items out.new.items }
 {
     push_field(out, name)?;
     push_bytes(out, b":")?;
@@ -17,7 +19,8 @@ fn push_head(out: &mut Vec<u8>, name: &[u8], pwfield: &[u8]) -> Result<(), Memor
 }
 
 fn push_numbers_of_user(alloc: Global, out: &mut Vec<u8>, user: &User) -> Result<(), Memory>
-    ensures { OnOk result (out.new.items ≡ out.old.items ++ lines.numbers_of_user user.now) }
+    ensures ok { OnOk result (out.new.items ≡ out.old.items ++ lines.numbers_of_user user.now) }
+    ensures kept { forms.Keeps out.old.items out.new.items }
 {
     push_number(alloc, out, u64::from(user.uid))?;
     push_bytes(out, b":")?;
@@ -26,7 +29,8 @@ fn push_numbers_of_user(alloc: Global, out: &mut Vec<u8>, user: &User) -> Result
 }
 
 fn push_texts_of_user(out: &mut Vec<u8>, user: &User) -> Result<(), Memory>
-    ensures { OnOk result (out.new.items ≡ out.old.items ++ lines.texts_of_user user.now) }
+    ensures ok { OnOk result (out.new.items ≡ out.old.items ++ lines.texts_of_user user.now) }
+    ensures kept { forms.Keeps out.old.items out.new.items }
 {
     push_field(out, user.gecos.bytes())?;
     push_bytes(out, b":")?;
@@ -36,7 +40,8 @@ fn push_texts_of_user(out: &mut Vec<u8>, user: &User) -> Result<(), Memory>
 }
 
 fn push_user(alloc: Global, out: &mut Vec<u8>, user: &User, pwfield: &[u8]) -> Result<(), Memory>
-    ensures { OnOk result (out.new.items ≡ out.old.items ++ lines.line_of_user user.now pwfield.now) }
+    ensures ok { OnOk result (out.new.items ≡ out.old.items ++ lines.line_of_user user.now pwfield.now) }
+    ensures kept { forms.Keeps out.old.items out.new.items }
 {
     push_head(out, user.name.bytes(), pwfield)?;
     push_numbers_of_user(alloc, out, user)?;
@@ -44,7 +49,8 @@ fn push_user(alloc: Global, out: &mut Vec<u8>, user: &User, pwfield: &[u8]) -> R
 }
 
 fn push_more_members(out: &mut Vec<u8>, names: &[Text]) -> Result<(), Memory>
-    ensures { OnOk result (out.new.items ≡ out.old.items ++ lines.more_members names.now) }
+    ensures ok { OnOk result (out.new.items ≡ out.old.items ++ lines.more_members names.now) }
+    ensures kept { forms.Keeps out.old.items out.new.items }
 {
     for name in names {
         push_bytes(out, b",")?;
@@ -54,7 +60,8 @@ fn push_more_members(out: &mut Vec<u8>, names: &[Text]) -> Result<(), Memory>
 }
 
 fn push_members(out: &mut Vec<u8>, names: &[Text]) -> Result<(), Memory>
-    ensures { OnOk result (out.new.items ≡ out.old.items ++ lines.members names.now) }
+    ensures ok { OnOk result (out.new.items ≡ out.old.items ++ lines.members names.now) }
+    ensures kept { forms.Keeps out.old.items out.new.items }
 {
     match names {
         [first, rest @ ..] => {
@@ -66,7 +73,8 @@ fn push_members(out: &mut Vec<u8>, names: &[Text]) -> Result<(), Memory>
 }
 
 fn push_group(alloc: Global, out: &mut Vec<u8>, group: &Group, pwfield: &[u8]) -> Result<(), Memory>
-    ensures { OnOk result (out.new.items ≡ out.old.items ++ lines.line_of_group group.now pwfield.now) }
+    ensures ok { OnOk result (out.new.items ≡ out.old.items ++ lines.line_of_group group.now pwfield.now) }
+    ensures kept { forms.Keeps out.old.items out.new.items }
 {
     push_head(out, group.name.bytes(), pwfield)?;
     push_number(alloc, out, u64::from(group.gid))?;
@@ -88,7 +96,8 @@ fn numbers_of(alloc: Global, groups: &[GroupRef]) -> Result<Vec<u32>, Memory>
 }
 
 fn push_more_numbers(alloc: Global, out: &mut Vec<u8>, numbers: &[u32]) -> Result<(), Memory>
-    ensures { OnOk result (out.new.items ≡ out.old.items ++ lines.more_numbers numbers.now) }
+    ensures ok { OnOk result (out.new.items ≡ out.old.items ++ lines.more_numbers numbers.now) }
+    ensures kept { forms.Keeps out.old.items out.new.items }
 {
     for number in numbers {
         push_bytes(out, b",")?;
@@ -98,7 +107,8 @@ fn push_more_numbers(alloc: Global, out: &mut Vec<u8>, numbers: &[u32]) -> Resul
 }
 
 fn push_numbers(alloc: Global, out: &mut Vec<u8>, numbers: &[u32]) -> Result<(), Memory>
-    ensures { OnOk result (out.new.items ≡ out.old.items ++ lines.numbers numbers.now) }
+    ensures ok { OnOk result (out.new.items ≡ out.old.items ++ lines.numbers numbers.now) }
+    ensures kept { forms.Keeps out.old.items out.new.items }
 {
     match numbers {
         [first, rest @ ..] => {
@@ -110,7 +120,8 @@ fn push_numbers(alloc: Global, out: &mut Vec<u8>, numbers: &[u32]) -> Result<(),
 }
 
 fn push_groups(alloc: Global, out: &mut Vec<u8>, groups: &Groups) -> Result<(), Memory>
-    ensures { OnOk result (out.new.items ≡ out.old.items ++ lines.line_of_groups groups.now) }
+    ensures ok { OnOk result (out.new.items ≡ out.old.items ++ lines.line_of_groups groups.now) }
+    ensures kept { forms.Keeps out.old.items out.new.items }
 {
     let numbers = numbers_of(alloc, groups.groups.items())?;
     push_field(out, groups.user.bytes())?;
@@ -125,7 +136,8 @@ pub fn push_record(
     found: &Record,
     pwfield: &[u8],
 ) -> Result<(), Memory>
-    ensures { OnOk result (out.new.items ≡ out.old.items ++ lines.line_of_record found.now pwfield.now) }
+    ensures ok { OnOk result (out.new.items ≡ out.old.items ++ lines.line_of_record found.now pwfield.now) }
+    ensures kept { forms.Keeps out.old.items out.new.items }
 {
     match found {
         Record::User(user) => push_user(alloc, out, user, pwfield),

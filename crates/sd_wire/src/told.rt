@@ -1,6 +1,7 @@
 // The texts of what clients are told.
 ghost use Rattle.std.specs.Prelude.{◌≡◌, ◌++◌, OnOk, IfOk, [], codes};
 ghost use Rattle.sd_wire.specs.SaidTexts as texts;
+ghost use Rattle.sd_wire.specs.Forms as forms;
 
 use crate::fields::{
     push_bytes, push_field, push_numbered, push_numbered_twice, push_numbered_within,
@@ -17,7 +18,8 @@ fn push_found(
     found: &Record,
     pwfield: &[u8],
 ) -> Result<(), Memory>
-    ensures { OnOk result (out.new.items ≡ out.old.items ++ texts.found_text number found.now pwfield.now) }
+    ensures ok { OnOk result (out.new.items ≡ out.old.items ++ texts.found_text number found.now pwfield.now) }
+    ensures kept { forms.Keeps out.old.items out.new.items }
 {
     push_numbered(alloc, out, b"found ", number)?;
     push_bytes(out, b" ")?;
@@ -32,7 +34,8 @@ fn push_old(
     found: &Record,
     pwfield: &[u8],
 ) -> Result<(), Memory>
-    ensures { OnOk result (out.new.items ≡ out.old.items ++ texts.old_text number outage found.now pwfield.now) }
+    ensures ok { OnOk result (out.new.items ≡ out.old.items ++ texts.old_text number outage found.now pwfield.now) }
+    ensures kept { forms.Keeps out.old.items out.new.items }
 {
     push_numbered_twice(alloc, out, b"old ", number, outage)?;
     push_bytes(out, b" ")?;
@@ -41,7 +44,8 @@ fn push_old(
 
 /// Appends until when logins are blocked.
 pub fn push_blocked(alloc: Global, out: &mut Vec<u8>, until: Option<u64>) -> Result<(), Memory>
-    ensures { OnOk result (out.new.items ≡ out.old.items ++ texts.blocked_text until) }
+    ensures ok { OnOk result (out.new.items ≡ out.old.items ++ texts.blocked_text until) }
+    ensures kept { forms.Keeps out.old.items out.new.items }
 {
     match until {
         Some(moment) => push_numbered(alloc, out, b"blocked ", moment),
@@ -51,7 +55,8 @@ pub fn push_blocked(alloc: Global, out: &mut Vec<u8>, until: Option<u64>) -> Res
 
 /// Appends what a login is told.
 fn push_login(alloc: Global, out: &mut Vec<u8>, said: &Said) -> Result<(), Memory>
-    ensures { OnOk result (out.new.items ≡ out.old.items ++ texts.login_text said.now) }
+    ensures ok { OnOk result (out.new.items ≡ out.old.items ++ texts.login_text said.now) }
+    ensures kept { forms.Keeps out.old.items out.new.items }
 {
     match said {
         Said::DeniedEmpty => push_bytes(out, b"denied empty"),
@@ -72,7 +77,8 @@ fn push_granted_rule(
     number: u64,
     name: &[u8],
 ) -> Result<(), Memory>
-    ensures { OnOk result (out.new.items ≡ out.old.items ++ texts.granted_rule_text number name.now) }
+    ensures ok { OnOk result (out.new.items ≡ out.old.items ++ texts.granted_rule_text number name.now) }
+    ensures kept { forms.Keeps out.old.items out.new.items }
 {
     push_numbered(alloc, out, b"granted ", number)?;
     push_bytes(out, b" rule ")?;
@@ -81,7 +87,8 @@ fn push_granted_rule(
 
 /// Appends what an account check is told.
 fn push_access(alloc: Global, out: &mut Vec<u8>, said: &Said) -> Result<(), Memory>
-    ensures { OnOk result (out.new.items ≡ out.old.items ++ texts.access_text said.now) }
+    ensures ok { OnOk result (out.new.items ≡ out.old.items ++ texts.access_text said.now) }
+    ensures kept { forms.Keeps out.old.items out.new.items }
 {
     match said {
         Said::GrantedPermit(n) => push_numbered_within(alloc, out, b"granted ", *n, b" permit"),
@@ -101,7 +108,8 @@ pub fn push_line(
     said: &Said,
     pwfield: &[u8],
 ) -> Result<(), Memory>
-    ensures { OnOk result (out.new.items ≡ out.old.items ++ texts.line_of said.now pwfield.now) }
+    ensures ok { OnOk result (out.new.items ≡ out.old.items ++ texts.line_of said.now pwfield.now) }
+    ensures kept { forms.Keeps out.old.items out.new.items }
 {
     match said {
         Said::Found(n, found) => push_found(alloc, out, *n, found, pwfield),
