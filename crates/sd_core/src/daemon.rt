@@ -59,6 +59,9 @@ impl Core {
         ensures rows { IfOk result (λ rows. rows ≡ kept.rows_of self.now) }
         ensures few { IfOk result (λ rows. length rows < 2 ^ 32) }
         ensures texts { IfOk result (λ rows. sum_by bytes.bytes_of_row rows ≤ 512 * 1024 * 1024) }
+
+        // Of a journal for which all laws hold.
+        ensures lawful { laws.IsKept self.now }
     {
         self.plain.kept()
     }
