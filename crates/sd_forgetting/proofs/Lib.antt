@@ -1,0 +1,16 @@
+pub mod Tests
+pub mod Places
+pub mod Firsts
+pub mod Lasts
+pub mod Opens
+pub mod Answers
+pub mod Marks
+pub mod Voids
+pub mod Tickets
+pub mod Logins
+pub mod Guesses
+pub mod Servers
+pub mod Reasons
+pub mod Quiet
+pub mod Whys
+pub mod Forgets
