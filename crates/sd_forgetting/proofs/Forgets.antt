@@ -82,9 +82,6 @@ names_in_part keep (Some n) xs f = leads_in_part keep n xs f
 
 fits_once : (a b c d : Bool) → ((a && b) && d) ≡ true → (b ≡ true → c ≡ true) → ((a && c) && d) ≡ true
 fits_once true true c true h f = both c true (f refl) refl
-  where
-    unused : Unit {0}
-    unused = tt
 fits_once true true c false h f = absurd (not_true h)
 fits_once true false c d h f = absurd (not_true h)
 fits_once false b c d h f = absurd (not_true h)
@@ -249,7 +246,7 @@ module _ (next : ℕ) (all : List Entry) (o : IsOrderly next all) where
   pub needed_kept : IsKeptOf all (needed all)
   needed_kept = subst (IsKeptOf all) (sym (needed_is_part all all)) kept_part
 
-open_both : (w p : List Entry) → SameOpen w p → (n : ℕ) → is_open w n ≡ is_open p n
+pub open_both : (w p : List Entry) → SameOpen w p → (n : ℕ) → is_open w n ≡ is_open p n
 open_both w p s n =
     ap (λ (b : Bool). b || is_open_attempt w n) (s.requests n) ∙ ap (λ (b : Bool). is_open_request p n || b) (s.attempts n)
 

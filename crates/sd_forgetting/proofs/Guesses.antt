@@ -12,7 +12,7 @@ use Rattle.sd_rules.specs.Keys.{same_name}
 use Rattle.sd_rules.specs.Past.{is_closed}
 use Rattle.sd_rules.specs.Requests.{is_try_accepted}
 use Rattle.sd_rules.specs.Logins.{user_of, is_name, is_attempt_of, is_right, is_accepted, is_wrong, accepts, wrongs, wrong_count, last_wrong}
-use Rattle.sd_rules.specs.Needed.{is_since_accepted, is_wrong_needed, user_guessed}
+use Rattle.sd_rules.specs.Needed.{is_since_accepted, is_wrong_needed, user_guessed, is_tried, read_with}
 use Rattle.sd_forgetting.specs.Parts.{part, IsAt, numbers_fall}
 use Rattle.sd_forgetting.proofs.Tests.{not_true, same_some, both, or_left, or_false, first_holds, second_holds, cases, clash, is_false, if_true, if_false, same_number, is_less, differ_above, equal_numbers, is_equal}
 use Rattle.sd_forgetting.proofs.Places.{part_law, keeps_if, user_or_none, numbers_below}
@@ -35,6 +35,27 @@ accepts_too p q user (events.LoginTry a named right) reply f h =
     (attempt_too (user_of p a) (user_of q a) user (f a) (second_holds (is_try_accepted reply) (is_attempt_of p a user) h))
 accepts_too p q user (events.LoginGuess u named right) reply f h = h
 accepts_too p q user _ reply f h = absurd (not_true h)
+
+attempt_read : (c d : Bool) (a : ℕ) (x y : Option (List ℕ)) (user : List ℕ) → (d ≡ true → c ≡ true) → ((n : ℕ) → (if c then Some a else None) ≡ Some n → n ≡ a → x ≡ y) →
+    (d && is_name x user) ≡ (d && is_name y user)
+attempt_read true true a x y user h f = ap (λ (o : Option (List ℕ)). is_name o user) (f a refl refl)
+attempt_read false true a x y user h f = absurd (not_true (h refl))
+attempt_read c false a x y user h f = refl
+
+accepted_is_tried : (reply : Reply) → is_try_accepted reply ≡ true → is_tried reply ≡ true
+accepted_is_tried (replies.Tried v) h = refl
+accepted_is_tried _ h = absurd (not_true h)
+
+-- an entry accepts alike over two pasts that hold its leading entry alike
+pub accepts_kept : (p q : List Entry) (user : List ℕ) (event : Event) (reply : Reply) → ((a : ℕ) → read_with event reply ≡ Some a → user_of p a ≡ user_of q a) →
+    accepts p user event reply ≡ accepts q user event reply
+accepts_kept p q user (events.LoginOnline a result) reply f =
+    ap (λ (b : Bool). is_right result && b)
+    (attempt_read (is_closed reply) (is_closed reply) a (user_of p a) (user_of q a) user (λ h. h) (λ n h is. subst (λ m. user_of p m ≡ user_of q m) is (f n h)))
+accepts_kept p q user (events.LoginTry a named right) reply f =
+    attempt_read (is_tried reply) (is_try_accepted reply) a (user_of p a) (user_of q a) user (accepted_is_tried reply) (λ n h is. subst (λ m. user_of p m ≡ user_of q m) is (f n h))
+accepts_kept p q user (events.LoginGuess u named right) reply f = refl
+accepts_kept p q user _ reply f = refl
 
 -- what accepts is no wrong guess
 not_wrong : (reply : Reply) → is_accepted reply ≡ true → is_wrong reply ≡ false

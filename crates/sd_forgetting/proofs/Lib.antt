@@ -14,3 +14,7 @@ pub mod Reasons
 pub mod Quiet
 pub mod Whys
 pub mod Forgets
+pub mod Replies
+pub mod Shown
+pub mod Made
+pub mod Steps

@@ -18,7 +18,7 @@ use Rattle.sd_forgetting.proofs.Places.{entry_kept, user_kept, user_or_none, at_
 use Rattle.sd_forgetting.proofs.Answers.{name_is}
 use Rattle.sd_forgetting.proofs.Firsts.{first_kept, first_entry_same}
 
-earlier_is_else : (x y : Option Login) → or_earlier x y ≡ or_else x y
+pub earlier_is_else : (x y : Option Login) → or_earlier x y ≡ or_else x y
 earlier_is_else None y = refl
 earlier_is_else (Some l) y = refl
 
@@ -44,7 +44,7 @@ read_if : (c : Bool) (a : ℕ) (x y : Option (List ℕ)) (user : List ℕ) (h : 
 read_if true a x y user h f = ap (λ (o : Option (List ℕ)). if is_name o user then h else None) (f a refl refl)
 read_if false a x y user h f = refl
 
-login_kept : (p q : List Entry) (user : List ℕ) (event : Event) (reply : Reply) → ((a : ℕ) → read_with event reply ≡ Some a → user_of p a ≡ user_of q a) →
+pub login_kept : (p q : List Entry) (user : List ℕ) (event : Event) (reply : Reply) → ((a : ℕ) → read_with event reply ≡ Some a → user_of p a ≡ user_of q a) →
     login_by p user event reply ≡ login_by q user event reply
 login_kept p q user (events.LoginOnline a result) reply f =
     read_if (is_closed reply) a (user_of p a) (user_of q a) user (hash_carried result) (λ n h is. subst (λ m. user_of p m ≡ user_of q m) is (f n h))
@@ -78,7 +78,7 @@ whose past user (events.Kept row) reply hashed h = row_user row user hashed h
 whose past user _ reply hashed h = absurd (none_is_not hashed h)
 
 -- what is read off a login
-login_some : (e : Entry) (o : Option Bool) (l : Login) → login_in e o ≡ Some l → (hashed : Bool) × ((o ≡ Some hashed) × (l.number ≡ e.number))
+pub login_some : (e : Entry) (o : Option Bool) (l : Login) → login_in e o ≡ Some l → (hashed : Bool) × ((o ≡ Some hashed) × (l.number ≡ e.number))
 login_some e None l h = absurd (none_is_not l h)
 login_some e (Some hashed) l h = (hashed, (refl, ap (λ (x : Login). x.number) (sym (same_some (record { number = e.number; moment = e.moment; hashed = hashed }) l h))))
 
@@ -86,7 +86,7 @@ hashed_if : (l m : Login) (b : Bool) → (if b then Some l else None) ≡ Some m
 hashed_if l m true h = h
 hashed_if l m false h = absurd (none_is_not m h)
 
-hashed_some : (o : Option Login) (l : Login) → only_hashed o ≡ Some l → o ≡ Some l
+pub hashed_some : (o : Option Login) (l : Login) → only_hashed o ≡ Some l → o ≡ Some l
 hashed_some None l h = absurd (none_is_not l h)
 hashed_some (Some m) l h = hashed_if m l m.hashed h
 
