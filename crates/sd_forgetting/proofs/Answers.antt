@@ -43,6 +43,18 @@ same_key_is keys.Host keys.Host h = refl
 same_key_is keys.Rules keys.Rules h = refl
 same_key_is _ _ h = cc
 
+number_same : (a : ℕ) → ((a == a) && true) ≡ true
+number_same a = grind (arith, nat_tests)
+
+pub same_key_same : (a : Key) → same_key a a ≡ true
+same_key_same (keys.User a) = name_same a
+same_key_same (keys.Uid a) = number_same a
+same_key_same (keys.Group a) = name_same a
+same_key_same (keys.Gid a) = number_same a
+same_key_same (keys.GroupsOf a) = name_same a
+same_key_same keys.Host = refl
+same_key_same keys.Rules = refl
+
 -- an answer that speaks of a key counts it among its keys
 counted : (P : Key → Bool) (a k : Key) → same_key a k ≡ true → P k ≡ true → P a ≡ true
 counted P a k h p = ap P (same_key_is a k h) ∙ p

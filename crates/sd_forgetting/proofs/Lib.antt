@@ -18,3 +18,7 @@ pub mod Replies
 pub mod Shown
 pub mod Made
 pub mod Steps
+pub mod Orders
+pub mod Whole
+pub mod Daemons
+pub mod Runs

@@ -138,7 +138,7 @@ module _ (s : Settings) (w p : List Entry) (number t : ℕ) (k : IsKeptOf w p) w
   to_outage_same n None o = closing_same n o
   to_outage_same n (Some server) o = refl
 
-  collect_same : (t' : ℕ) (r : Option ℕ) → waits_for w t' ≡ r → reply_to_collect w r ≡ reply_to_collect p r
+  pub collect_same : (t' : ℕ) (r : Option ℕ) → waits_for w t' ≡ r → reply_to_collect w r ≡ reply_to_collect p r
   collect_same t' None is = refl
   collect_same t' (Some r) is =
       taken (is_open_request w r) (is_open_request p r) (k.opens.requests r) (outcome_of w r) (outcome_of p r) (λ c. k.tickets.outcomes t' r is c)
