@@ -1,6 +1,6 @@
 -- The newest answer of each key is the same in a part that keeps it, and its leading entry with it.
-use Rattle.std.proofs.Common.{◌≡◌, ℕ, ◌<◌, Bool, true, false, List, [], ◌∷◌, arith, refl, sym, ap, subst, ◌∙◌, inl, inr}
-use Rattle.std.specs.Prelude.{Option, Some, None, nat_lt, ◌⊎◌, ◌==◌, ◌&&◌, ◌||◌, if◌then◌else◌}
+use Rattle.std.proofs.Common.{◌≡◌, ℕ, Bool, true, false, List, [], ◌∷◌, arith, refl, sym, ap, subst, ◌∙◌, inl, inr}
+use Rattle.std.specs.Prelude.{Option, Some, None, ◌⊎◌, ◌==◌, ◌&&◌, ◌||◌, if◌then◌else◌}
 use Rattle.std.specs.List.{list_any}
 use Rattle.std.proofs.lemmas.Bool.Decides.{nat_tests}
 use Rattle.std.specs.Cmp.Lexicographic.{bytes_decides}
@@ -14,13 +14,12 @@ use Rattle.sd_rules.specs.declared.events.Event.{Event}
 use Rattle.sd_rules.specs.declared.events.Event.TheVariants as events
 use Rattle.sd_rules.specs.declared.events.Row.TheVariants as rows
 use Rattle.sd_rules.specs.declared.replies.Entry.{Entry}
-use Rattle.sd_rules.specs.declared.replies.Reply.{Reply}
 use Rattle.sd_rules.specs.Keys.{same_key, same_name, record_speaks, speaks_of}
 use Rattle.sd_rules.specs.Past.{Standing, or_else, is_closed, key_of, answer_under, answer_by, answer_in, spoken, newest}
 use Rattle.sd_rules.specs.Steps.{is_again}
 use Rattle.sd_rules.specs.Needed.{keys_of_record, keys_of_answer, is_number_of, is_newest_of, is_newest_of_some, is_newest_answer, read_with}
 use Rattle.sd_forgetting.specs.Parts.{part, entry_at, IsAt, numbers_fall}
-use Rattle.sd_forgetting.proofs.Tests.{not_true, none_is_not, same_some, or_left, or_right, either, cases, if_true, if_false, same_number}
+use Rattle.sd_forgetting.proofs.Tests.{not_true, none_is_not, same_some, or_left, or_right, either, same_number}
 use Rattle.sd_forgetting.proofs.Places.{entry_kept, key_kept, key_or_none, at_through, numbers_before, one_of_number}
 use Rattle.sd_forgetting.proofs.Firsts.{first_kept}
 
@@ -169,7 +168,7 @@ module _
     (answer_looked : (e : Entry) (past : List Entry) → IsAt all e past → is_newest_answer all past e ≡ true → looked past e ≡ true)
     (looked_kept : (e : Entry) (past : List Entry) → IsAt all e past → looked past e ≡ true → keep past e ≡ true)
     (lead_kept : (other : Entry) (q : List Entry) (r : ℕ) (x : Entry) (p : List Entry) → IsAt all other q → looked q other ≡ true →
-        read_with other.event other.reply ≡ Some r → IsAt all x p → x.number ≡ r → keep p x ≡ true) where
+    read_with other.event other.reply ≡ Some r → IsAt all x p → x.number ≡ r → keep p x ≡ true) where
   -- the leading entry of what is looked at is in the part
   pub lead_stays : (e : Entry) (past : List Entry) (r : ℕ) → IsAt all e past → looked past e ≡ true → read_with e.event e.reply ≡ Some r →
       entry_at past r ≡ entry_at (part keep past) r

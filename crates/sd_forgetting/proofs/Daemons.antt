@@ -1,33 +1,26 @@
 -- A daemon and one that keeps of it what later events can look at answer alike.
-use Rattle.std.proofs.Common.{◌≡◌, ℕ, ◌<◌, ◌≤◌, ◌+◌, ◌*◌, ◌^◌, ◌-◌, Bool, true, false, List, [], ◌∷◌, length, arith, refl, sym, ap, subst, ◌∙◌, inl, inr}
-use Rattle.std.specs.Prelude.{Option, Some, None, not, is_some, nat_lt, ◌==◌, ◌&&◌, ◌||◌, if◌then◌else◌}
+use Rattle.std.proofs.Common.{◌≡◌, ℕ, ◌≤◌, ◌+◌, ◌*◌, ◌^◌, ◌-◌, Bool, true, false, List, [], ◌∷◌, length, arith, refl, sym, ap, ◌∙◌}
+use Rattle.std.specs.Prelude.{Option, not, is_some, nat_lt, ◌&&◌, ◌||◌, if◌then◌else◌}
 use Rattle.std.proofs.lemmas.Bool.Decides.{nat_tests}
 use Rattle.sd_rules.specs.declared.keys.Key.{Key}
-use Rattle.sd_rules.specs.declared.records.Answered.{Answered}
 use Rattle.sd_rules.specs.declared.events.Event.{Event}
 use Rattle.sd_rules.specs.declared.events.Event.TheVariants as events
-use Rattle.sd_rules.specs.declared.settings.Settings.{Settings}
 use Rattle.sd_rules.specs.declared.replies.Entry.{Entry}
-use Rattle.sd_rules.specs.declared.replies.Given.{Given}
 use Rattle.sd_rules.specs.declared.replies.Reply.{Reply}
 use Rattle.sd_rules.specs.Past.{key_of}
-use Rattle.sd_rules.specs.Requests.{is_open, is_open_request, is_open_attempt, waits_for, is_took, reserves, reserved_among, reserved_places}
-use Rattle.sd_rules.specs.Steps.{Daemon, number_after, moment_after, next_number, moment_of, reply_to, reply_to_collect, entry_made, recorded, after, given_by, given, gives_back, full_count, lacks_places, lacks_text, lacks_numbers, is_full, answers_kind, is_steppable}
+use Rattle.sd_rules.specs.Requests.{is_open_request, is_open_attempt, waits_for, is_took, reserves, reserved_among, reserved_places}
+use Rattle.sd_rules.specs.Steps.{Daemon, next_number, moment_of, reply_to, reply_to_collect, entry_made, recorded, after, given_by, given, gives_back, lacks_places, lacks_text, lacks_numbers, is_full, answers_kind, is_steppable}
 use Rattle.sd_rules.specs.TextBytes.{bytes_of_event, text_bytes}
-use Rattle.sd_rules.specs.Needed.{needed}
-use Rattle.sd_rules.specs.Reaching.{Move, Append, Forget, after_forget, after_moves, can_move, can_make}
-use Rattle.sd_forgetting.specs.Parts.{part, numbers_fall}
+use Rattle.sd_forgetting.specs.Parts.{part}
 use Rattle.sd_forgetting.specs.Orderly.{IsOrderly}
-use Rattle.sd_forgetting.specs.Kept.{reserving, IsKeptOf, Keeps}
-use Rattle.sd_forgetting.specs.Runs.{without_forgets, moves_given, moves_have_room, ForgetsNothing}
-use Rattle.sd_forgetting.proofs.Tests.{not_true, both, or_left, first_holds, second_holds, is_false}
+use Rattle.sd_forgetting.specs.Kept.{IsKeptOf}
+use Rattle.sd_forgetting.proofs.Tests.{not_true, or_left}
 use Rattle.sd_forgetting.proofs.Places.{key_kept}
-use Rattle.sd_forgetting.proofs.Forgets.{open_both, needed_kept, needed_orderly}
+use Rattle.sd_forgetting.proofs.Forgets.{open_both}
 use Rattle.sd_forgetting.proofs.Replies.{reply_same, collect_same}
 use Rattle.sd_forgetting.proofs.Shown.{reply_shows, given_same}
 use Rattle.sd_forgetting.proofs.Made.{made_over, falls_above, next_above}
 use Rattle.sd_forgetting.proofs.Steps.{kept_after}
-use Rattle.sd_forgetting.proofs.Orders.{orderly_after}
 
 -- a daemon with other entries
 abbrev pub over : Daemon → List Entry → Daemon

@@ -1,6 +1,6 @@
 -- The first entry of a past that meets a test is the same in a part that keeps it.
-use Rattle.std.proofs.Common.{◌≡◌, ℕ, Bool, true, false, List, [], ◌∷◌, refl, sym, ap, ◌∙◌, inl, inr}
-use Rattle.std.specs.Prelude.{Option, Some, None, ◌⊎◌, if◌then◌else◌}
+use Rattle.std.proofs.Common.{◌≡◌, ℕ, Bool, true, List, [], ◌∷◌, refl, sym, ap, ◌∙◌, inl, inr}
+use Rattle.std.specs.Prelude.{Option, Some, None, if◌then◌else◌}
 use Rattle.sd_rules.specs.declared.replies.Entry.{Entry}
 use Rattle.sd_rules.specs.Past.{or_else}
 use Rattle.sd_forgetting.specs.Parts.{part, entry_at, IsAt, numbers_fall}
@@ -64,5 +64,5 @@ module _
       let k = here f.entry f.past x f.at f.hits h in
       entry_kept keep (number_of x) all
       (λ e past at same.
-          let one = one_of_number b all e past f.entry f.past falls at f.at (same ∙ named f.entry f.past x f.hits) in
-          ap (λ (z : Entry). keep past z) one.0 ∙ (ap (λ (l : List Entry). keep l f.entry) one.1 ∙ k.0))
+      let one = one_of_number b all e past f.entry f.past falls at f.at (same ∙ named f.entry f.past x f.hits) in
+      ap (λ (z : Entry). keep past z) one.0 ∙ (ap (λ (l : List Entry). keep l f.entry) one.1 ∙ k.0))

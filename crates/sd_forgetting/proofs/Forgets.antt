@@ -1,20 +1,19 @@
 -- What a forget keeps of an orderly journal shows all that the whole does, and is orderly.
-use Rattle.std.proofs.Common.{◌≡◌, ℕ, ◌<◌, ◌≤◌, ◌+◌, Bool, true, false, List, [], ◌∷◌, length, arith, refl, sym, ap, subst, ◌∙◌, inl, inr}
-use Rattle.std.specs.Prelude.{Option, Some, None, not, is_some, nat_lt, ◌⊎◌, ◌==◌, ◌&&◌, ◌||◌, if◌then◌else◌}
-use Rattle.sd_rules.specs.declared.keys.Key.{Key}
+use Rattle.std.proofs.Common.{◌≡◌, ℕ, ◌≤◌, ◌+◌, Bool, true, false, List, [], ◌∷◌, length, arith, refl, sym, ap, subst, ◌∙◌, inl, inr}
+use Rattle.std.specs.Prelude.{Option, Some, None, not, is_some, ◌⊎◌, ◌&&◌, ◌||◌, if◌then◌else◌}
 use Rattle.sd_rules.specs.declared.events.Event.{Event}
 use Rattle.sd_rules.specs.declared.events.Event.TheVariants as events
 use Rattle.sd_rules.specs.declared.replies.Entry.{Entry}
 use Rattle.sd_rules.specs.declared.replies.Reply.{Reply}
-use Rattle.sd_rules.specs.Past.{Standing, newest, records_outage, ends_outage}
+use Rattle.sd_rules.specs.Past.{records_outage, ends_outage}
 use Rattle.sd_rules.specs.Requests.{closes, is_open, is_open_request, is_open_attempt, reserves, joined, waits_for, outcome_of}
 use Rattle.sd_rules.specs.Servers.{is_online}
 use Rattle.sd_rules.specs.Steps.{number_after, moment_after}
 use Rattle.sd_rules.specs.TextBytes.{bytes_of_event, text_bytes}
-use Rattle.sd_rules.specs.Needed.{is_number, last_where, last_outage, answer_of_outcome, is_stop, is_last, is_looked_at, is_read_with, read_with, is_needed, needed}
-use Rattle.sd_forgetting.specs.Parts.{part, entry_at, last_entry, IsAt, numbers_fall, moments_fall}
-use Rattle.sd_forgetting.specs.Orderly.{named_by, is_below, are_leads, names_leads, is_ask, is_lead, entry_fits, entries_fit, is_answer, holds_answer, is_word, last_word, closed_or_open, head_is_open, IsNewestAnswer, IsOrderly}
-use Rattle.sd_forgetting.specs.Kept.{reserving, has_stop, SameOpen, SameAnswers, SameTickets, SameLogins, SameEnds, IsKeptOf}
+use Rattle.sd_rules.specs.Needed.{is_number, answer_of_outcome, is_stop, is_looked_at, is_read_with, read_with, is_needed, needed}
+use Rattle.sd_forgetting.specs.Parts.{part, entry_at, last_entry, IsAt}
+use Rattle.sd_forgetting.specs.Orderly.{named_by, is_below, leads_or_other, are_leads, names_leads, is_ask, entry_fits, entries_fit, is_answer, holds_answer, is_word, last_word, closed_or_open, head_is_open, IsNewestAnswer, IsOrderly}
+use Rattle.sd_forgetting.specs.Kept.{SameOpen, SameAnswers, SameTickets, SameLogins, SameEnds, IsKeptOf}
 use Rattle.sd_forgetting.proofs.Tests.{not_true, both, or_left, or_right, either, first_holds, second_holds, cases, clash, if_true, if_false, same_number}
 use Rattle.sd_forgetting.proofs.Places.{needed_is_part, part_law, keeps_if, falls_in_part}
 use Rattle.sd_forgetting.proofs.Lasts.{number_in, where_is_entry, last_same, last_of_both}
@@ -64,6 +63,7 @@ less_text keep (x ∷ xs) =
   where
     more_text : (a b c : ℕ) → b ≤ c → a + b ≤ a + c
     more_text a b c h = omega arith
+
     plus_text : (a b c : ℕ) → b ≤ c → b ≤ a + c
     plus_text a b c h = omega arith
 
@@ -71,9 +71,9 @@ less_text keep (x ∷ xs) =
 leads_in_part : (keep : List Entry → Entry → Bool) (n : ℕ) (xs : List Entry) → are_leads n xs ≡ true → are_leads n (part keep xs) ≡ true
 leads_in_part keep n [] f = refl
 leads_in_part keep n (x ∷ xs) f =
-    let rest = leads_in_part keep n xs (second_holds (not (x.number == n) || is_lead x) (are_leads n xs) f) in
+    let rest = leads_in_part keep n xs (second_holds (leads_or_other n x) (are_leads n xs) f) in
     part_law (λ (l : List Entry). are_leads n l ≡ true) (keep xs x) x (part keep xs)
-    (λ _. both (not (x.number == n) || is_lead x) (are_leads n (part keep xs)) (first_holds (not (x.number == n) || is_lead x) (are_leads n xs) f) rest)
+    (λ _. both (leads_or_other n x) (are_leads n (part keep xs)) (first_holds (leads_or_other n x) (are_leads n xs) f) rest)
     (λ _. rest)
 
 names_in_part : (keep : List Entry → Entry → Bool) (o : Option ℕ) (xs : List Entry) → names_leads o xs ≡ true → names_leads o (part keep xs) ≡ true

@@ -1,5 +1,5 @@
 -- The wrong guesses that count are the same in a part that keeps them and none that count no more.
-use Rattle.std.proofs.Common.{◌≡◌, ℕ, ◌<◌, ◌≤◌, ◌+◌, Bool, true, false, List, [], ◌∷◌, arith, refl, sym, ap, subst, ◌∙◌, inl, inr}
+use Rattle.std.proofs.Common.{◌≡◌, ℕ, ◌<◌, ◌+◌, Bool, true, false, List, [], ◌∷◌, arith, refl, sym, ap, subst, ◌∙◌, inl, inr}
 use Rattle.std.specs.Prelude.{Option, Some, None, not, nat_lt, ◌≢◌, ◌⊎◌, ◌==◌, ◌&&◌, ◌||◌, if◌then◌else◌}
 use Rattle.sd_rules.specs.declared.events.Event.{Event}
 use Rattle.sd_rules.specs.declared.events.Event.TheVariants as events
@@ -14,7 +14,7 @@ use Rattle.sd_rules.specs.Requests.{is_try_accepted}
 use Rattle.sd_rules.specs.Logins.{user_of, is_name, is_attempt_of, is_right, is_accepted, is_wrong, accepts, wrongs, wrong_count, last_wrong}
 use Rattle.sd_rules.specs.Needed.{is_since_accepted, is_wrong_needed, user_guessed, is_tried, read_with}
 use Rattle.sd_forgetting.specs.Parts.{part, IsAt, numbers_fall}
-use Rattle.sd_forgetting.proofs.Tests.{not_true, same_some, both, or_left, or_false, first_holds, second_holds, cases, clash, is_false, if_true, if_false, same_number, is_less, differ_above, equal_numbers, is_equal}
+use Rattle.sd_forgetting.proofs.Tests.{not_true, both, or_left, or_false, first_holds, second_holds, cases, clash, is_false, if_true, if_false, same_number, is_less, differ_above, equal_numbers}
 use Rattle.sd_forgetting.proofs.Places.{part_law, keeps_if, user_or_none, numbers_below}
 use Rattle.sd_forgetting.proofs.Answers.{name_is}
 
@@ -111,8 +111,8 @@ module _
   wrong_is_kept : (c : ℕ) (x : Entry) (xs : List Entry) → IsAt all x xs → x.number < c → accepts xs user x.event x.reply ≡ false → Since c (x ∷ xs) → (wrongs user x.event x.reply == 0) ≡ false → keep xs x ≡ true
   wrong_is_kept c x xs at low refused since h =
       let stands : is_since_accepted all user x.number ≡ true = since x.number low
-          ∙ (if_false (accepts xs user x.event x.reply) false ((x.number == x.number) || is_since_accepted xs user x.number) refused
-          ∙ or_left (x.number == x.number) (is_since_accepted xs user x.number) (same_number x.number)) in
+      ∙ (if_false (accepts xs user x.event x.reply) false ((x.number == x.number) || is_since_accepted xs user x.number) refused
+      ∙ or_left (x.number == x.number) (is_since_accepted xs user x.number) (same_number x.number)) in
       wrong_kept x xs at (ap (is_wrong_needed all x) (whose_guess user x.event x.reply h)
       ∙ both (not (wrongs user x.event x.reply == 0)) (is_since_accepted all user x.number) (ap not h) stands)
 
@@ -153,10 +153,10 @@ module _
       cases (wrongs user e.event e.reply == 0)
       (λ none. no_count (wrongs user e.event e.reply) none)
       (λ some. let below = numbers_below x.number xs e past f at in
-          let deep : e.number < c = omega arith in
-          let stands = why e past (within e past at) k some in
-          clash (is_since_accepted all user e.number) stands
-          (since e.number deep ∙ if_true (accepts xs user x.event x.reply) false ((x.number == e.number) || is_since_accepted xs user e.number) accepted))
+      let deep : e.number < c = omega arith in
+      let stands = why e past (within e past at) k some in
+      clash (is_since_accepted all user e.number) stands
+      (since e.number deep ∙ if_true (accepts xs user x.event x.reply) false ((x.number == e.number) || is_since_accepted xs user e.number) accepted))
 
   count_same : (c : ℕ) (xs : List Entry) → numbers_fall c xs ≡ true → ((e : Entry) (past : List Entry) → IsAt xs e past → IsAt all e past) → Since c xs →
       wrong_count xs user ≡ wrong_count (part keep xs) user
@@ -166,19 +166,19 @@ module _
       let rest = second_holds (nat_lt x.number c) (numbers_fall x.number xs) f in
       cases (accepts xs user x.event x.reply)
       (λ yes. let none = none_count xs (behind c x xs rest low (λ e past at. within e past (inr at)) yes since) in
-          count_if (accepts xs user x.event x.reply) (wrongs user x.event x.reply) (wrong_count xs user) yes
-          ∙ sym (part_law (λ (l : List Entry). wrong_count l user ≡ 0) (keep xs x) x (part keep xs)
-          (λ _. zero_or (accepts (part keep xs) user x.event x.reply) (wrongs user x.event x.reply) (wrong_count (part keep xs) user)
-              (accepted_counts_none xs user x.event x.reply yes) none)
-          (λ _. none)))
+      count_if (accepts xs user x.event x.reply) (wrongs user x.event x.reply) (wrong_count xs user) yes
+      ∙ sym (part_law (λ (l : List Entry). wrong_count l user ≡ 0) (keep xs x) x (part keep xs)
+      (λ _. zero_or (accepts (part keep xs) user x.event x.reply) (wrongs user x.event x.reply) (wrong_count (part keep xs) user)
+      (accepted_counts_none xs user x.event x.reply yes) none)
+      (λ _. none)))
       (λ no. let below = count_same x.number xs rest (λ e past at. within e past (inr at)) (since_rest c x xs low no since) in
-          count_else (accepts xs user x.event x.reply) (wrongs user x.event x.reply) (wrong_count xs user) no
-          ∙ keeps_if (λ (l : List Entry). wrong_count l user) (keep xs x) x (part keep xs) (wrongs user x.event x.reply + wrong_count xs user)
-          (λ _. ap (λ (n : ℕ). wrongs user x.event x.reply + n) below
-          ∙ sym (count_else (accepts (part keep xs) user x.event x.reply) (wrongs user x.event x.reply) (wrong_count (part keep xs) user) (not_accepting x xs x.number rest no)))
-          (λ dropped. cases (wrongs user x.event x.reply == 0)
-          (λ none. let zero_here = no_count (wrongs user x.event x.reply) none in ap (λ (n : ℕ). n + wrong_count xs user) zero_here ∙ (zero_plus (wrong_count xs user) ∙ below))
-          (λ some. clash (keep xs x) (wrong_is_kept c x xs (within x xs (inl (refl, refl))) low no since some) dropped)))
+      count_else (accepts xs user x.event x.reply) (wrongs user x.event x.reply) (wrong_count xs user) no
+      ∙ keeps_if (λ (l : List Entry). wrong_count l user) (keep xs x) x (part keep xs) (wrongs user x.event x.reply + wrong_count xs user)
+      (λ _. ap (λ (n : ℕ). wrongs user x.event x.reply + n) below
+      ∙ sym (count_else (accepts (part keep xs) user x.event x.reply) (wrongs user x.event x.reply) (wrong_count (part keep xs) user) (not_accepting x xs x.number rest no)))
+      (λ dropped. cases (wrongs user x.event x.reply == 0)
+      (λ none. let zero_here = no_count (wrongs user x.event x.reply) none in ap (λ (n : ℕ). n + wrong_count xs user) zero_here ∙ (zero_plus (wrong_count xs user) ∙ below))
+      (λ some. clash (keep xs x) (wrong_is_kept c x xs (within x xs (inl (refl, refl))) low no since some) dropped)))
 
   pub wrongs_same : wrong_count all user ≡ wrong_count (part keep all) user
   wrongs_same = count_same b all falls (λ e past at. at) (λ n h. refl)
@@ -196,14 +196,14 @@ module _
       cases (accepts xs user x.event x.reply)
       (λ yes. absurd (some (count_if (accepts xs user x.event x.reply) (wrongs user x.event x.reply) (wrong_count xs user) yes)))
       (λ no. let below : (wrongs user x.event x.reply == 0) ≡ true → last_wrong xs user ≡ last_wrong (part keep xs) user =
-              (λ none. last_same_while x.number xs rest (λ e past at. within e past (inr at)) (since_rest c x xs low no since)
-              (λ h. let zero_here = no_count (wrongs user x.event x.reply) none in
-                  some (count_else (accepts xs user x.event x.reply) (wrongs user x.event x.reply) (wrong_count xs user) no ∙ (ap (λ (n : ℕ). n + wrong_count xs user) zero_here ∙ (zero_plus (wrong_count xs user) ∙ h))))) in
-          keeps_if (λ (l : List Entry). last_wrong l user) (keep xs x) x (part keep xs) (last_wrong (x ∷ xs) user)
-          (λ _. last_if (wrongs user x.event x.reply == 0) x.moment (last_wrong xs user) (last_wrong (part keep xs) user) below)
-          (λ dropped. cases (wrongs user x.event x.reply == 0)
-          (λ none. if_true (wrongs user x.event x.reply == 0) (last_wrong xs user) (Some x.moment) none ∙ below none)
-          (λ h. clash (keep xs x) (wrong_is_kept c x xs (within x xs (inl (refl, refl))) low no since h) dropped)))
+      (λ none. last_same_while x.number xs rest (λ e past at. within e past (inr at)) (since_rest c x xs low no since)
+      (λ h. let zero_here = no_count (wrongs user x.event x.reply) none in
+      some (count_else (accepts xs user x.event x.reply) (wrongs user x.event x.reply) (wrong_count xs user) no ∙ (ap (λ (n : ℕ). n + wrong_count xs user) zero_here ∙ (zero_plus (wrong_count xs user) ∙ h))))) in
+      keeps_if (λ (l : List Entry). last_wrong l user) (keep xs x) x (part keep xs) (last_wrong (x ∷ xs) user)
+      (λ _. last_if (wrongs user x.event x.reply == 0) x.moment (last_wrong xs user) (last_wrong (part keep xs) user) below)
+      (λ dropped. cases (wrongs user x.event x.reply == 0)
+      (λ none. if_true (wrongs user x.event x.reply == 0) (last_wrong xs user) (Some x.moment) none ∙ below none)
+      (λ h. clash (keep xs x) (wrong_is_kept c x xs (within x xs (inl (refl, refl))) low no since h) dropped)))
 
   pub last_wrongs_same : wrong_count all user ≢ 0 → last_wrong all user ≡ last_wrong (part keep all) user
   last_wrongs_same some = last_same_while b all falls (λ e past at. at) (λ n h. refl) some

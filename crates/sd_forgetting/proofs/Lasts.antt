@@ -1,11 +1,11 @@
 -- The last entry that meets a test of the entry alone.
-use Rattle.std.proofs.Common.{◌≡◌, ℕ, ◌<◌, Bool, true, false, List, [], ◌∷◌, arith, refl, sym, ap, ◌∙◌, inl, inr}
-use Rattle.std.specs.Prelude.{Option, Some, None, ◌⊎◌, if◌then◌else◌}
+use Rattle.std.proofs.Common.{◌≡◌, ℕ, Bool, true, false, List, [], ◌∷◌, refl, sym, ap, ◌∙◌}
+use Rattle.std.specs.Prelude.{Option, Some, None, if◌then◌else◌}
 use Rattle.sd_rules.specs.declared.replies.Entry.{Entry}
 use Rattle.sd_rules.specs.Past.{or_else}
 use Rattle.sd_rules.specs.Needed.{last_where}
 use Rattle.sd_forgetting.specs.Parts.{part, last_entry, IsAt}
-use Rattle.sd_forgetting.proofs.Tests.{not_true, none_is_not, same_some, cases, clash, if_true, if_false}
+use Rattle.sd_forgetting.proofs.Tests.{not_true, none_is_not, same_some}
 use Rattle.sd_forgetting.proofs.Firsts.{first_kept}
 
 abbrev pub number_in : Option Entry → Option ℕ

@@ -22,3 +22,5 @@ pub mod Orders
 pub mod Whole
 pub mod Daemons
 pub mod Runs
+pub mod Asked
+pub mod Opened

@@ -1,19 +1,18 @@
 -- The online logins and the hash entry of each user are the same in a part that keeps them, with their leading entries.
-use Rattle.std.proofs.Common.{◌≡◌, ℕ, ◌<◌, Bool, true, false, List, [], ◌∷◌, arith, refl, sym, ap, subst, ◌∙◌, inl, inr}
-use Rattle.std.specs.Prelude.{Option, Some, None, nat_lt, ◌⊎◌, ◌==◌, ◌&&◌, ◌||◌, if◌then◌else◌}
+use Rattle.std.proofs.Common.{◌≡◌, ℕ, Bool, true, false, List, ◌∷◌, refl, sym, ap, subst, ◌∙◌, inl, inr}
+use Rattle.std.specs.Prelude.{Option, Some, None, ◌⊎◌, ◌==◌, ◌&&◌, ◌||◌, if◌then◌else◌}
 use Rattle.sd_rules.specs.declared.events.Event.{Event}
 use Rattle.sd_rules.specs.declared.events.Event.TheVariants as events
-use Rattle.sd_rules.specs.declared.events.LoginResult.{LoginResult}
 use Rattle.sd_rules.specs.declared.events.Row.{Row}
 use Rattle.sd_rules.specs.declared.events.Row.TheVariants as rows
 use Rattle.sd_rules.specs.declared.replies.Entry.{Entry}
 use Rattle.sd_rules.specs.declared.replies.Reply.{Reply}
 use Rattle.sd_rules.specs.Keys.{same_name}
 use Rattle.sd_rules.specs.Past.{or_else, is_closed}
-use Rattle.sd_rules.specs.Logins.{Login, user_of, is_name, is_attempt_of, hash_carried, kept_login, login_by, login_in, or_earlier, only_hashed, last_online_login, hash_entry}
+use Rattle.sd_rules.specs.Logins.{Login, user_of, is_name, hash_carried, kept_login, login_by, login_in, or_earlier, only_hashed, last_online_login, hash_entry}
 use Rattle.sd_rules.specs.Needed.{read_with, user_if_right, user_of_row, user_logged_in, is_login, is_login_needed}
 use Rattle.sd_forgetting.specs.Parts.{part, entry_at, IsAt, numbers_fall}
-use Rattle.sd_forgetting.proofs.Tests.{not_true, none_is_not, same_some, or_left, or_right, first_holds, second_holds, same_number, if_true}
+use Rattle.sd_forgetting.proofs.Tests.{not_true, none_is_not, same_some, or_left, or_right, same_number}
 use Rattle.sd_forgetting.proofs.Places.{entry_kept, user_kept, user_or_none, at_through, numbers_before}
 use Rattle.sd_forgetting.proofs.Answers.{name_is}
 use Rattle.sd_forgetting.proofs.Firsts.{first_kept, first_entry_same}
@@ -95,7 +94,7 @@ module _
     (login_looked : (e : Entry) (past : List Entry) → IsAt all e past → is_login_needed all e.number (user_logged_in past e.event e.reply) ≡ true → looked past e ≡ true)
     (looked_kept : (e : Entry) (past : List Entry) → IsAt all e past → looked past e ≡ true → keep past e ≡ true)
     (lead_kept : (other : Entry) (q : List Entry) (r : ℕ) (x : Entry) (p : List Entry) → IsAt all other q → looked q other ≡ true →
-        read_with other.event other.reply ≡ Some r → IsAt all x p → x.number ≡ r → keep p x ≡ true) (user : List ℕ) where
+    read_with other.event other.reply ≡ Some r → IsAt all x p → x.number ≡ r → keep p x ≡ true) (user : List ℕ) where
   login_later : (e : Entry) (past : List Entry) → IsAt all e past →
       (login_by (part keep past) user e.event e.reply ≡ login_by past user e.event e.reply) ⊎ (login_by (part keep past) user e.event e.reply ≡ None)
   login_later e past at =
@@ -119,14 +118,14 @@ module _
   online_here e past l at h is =
       let s = login_some e (login_by past user e.event e.reply) l h in
       let look = looked_as e past s.0 at s.1.0
-          (or_right (is_login e.number (hash_entry all user)) (is_login e.number (last_online_login all user)) (is_login_of e l (last_online_login all user) is s.1.1)) in
+      (or_right (is_login e.number (hash_entry all user)) (is_login e.number (last_online_login all user)) (is_login_of e l (last_online_login all user) is s.1.1)) in
       (looked_kept e past at look, ap (login_in e) (sym (login_same e past at look)) ∙ h)
 
   online_later : (e : Entry) (past : List Entry) → IsAt all e past → login_in e (login_by past user e.event e.reply) ≡ None → login_in e (login_by (part keep past) user e.event e.reply) ≡ None
   online_later e past at h = elim (login_later e past at) [
-      | inl s ↦ ap (login_in e) s ∙ h
-      | inr s ↦ ap (login_in e) s
-    ]
+    | inl s ↦ ap (login_in e) s ∙ h
+    | inr s ↦ ap (login_in e) s
+  ]
 
   online_cut : (e : Entry) (past : List Entry) → last_online_login (e ∷ past) user ≡ or_else (login_in e (login_by past user e.event e.reply)) (last_online_login past user)
   online_cut e past = earlier_is_else (login_in e (login_by past user e.event e.reply)) (last_online_login past user)
@@ -146,15 +145,15 @@ module _
   hash_here e past l at h is =
       let s = login_some e (login_by past user e.event e.reply) l (hashed_some (login_in e (login_by past user e.event e.reply)) l h) in
       let look = looked_as e past s.0 at s.1.0
-          (or_left (is_login e.number (hash_entry all user)) (is_login e.number (last_online_login all user)) (is_login_of e l (hash_entry all user) is s.1.1)) in
+      (or_left (is_login e.number (hash_entry all user)) (is_login e.number (last_online_login all user)) (is_login_of e l (hash_entry all user) is s.1.1)) in
       (looked_kept e past at look, ap (λ (o : Option Bool). only_hashed (login_in e o)) (sym (login_same e past at look)) ∙ h)
 
   hash_later : (e : Entry) (past : List Entry) → IsAt all e past → only_hashed (login_in e (login_by past user e.event e.reply)) ≡ None →
       only_hashed (login_in e (login_by (part keep past) user e.event e.reply)) ≡ None
   hash_later e past at h = elim (login_later e past at) [
-      | inl s ↦ ap (λ (o : Option Bool). only_hashed (login_in e o)) s ∙ h
-      | inr s ↦ ap (λ (o : Option Bool). only_hashed (login_in e o)) s
-    ]
+    | inl s ↦ ap (λ (o : Option Bool). only_hashed (login_in e o)) s ∙ h
+    | inr s ↦ ap (λ (o : Option Bool). only_hashed (login_in e o)) s
+  ]
 
   hash_cut : (e : Entry) (past : List Entry) → hash_entry (e ∷ past) user ≡ or_else (only_hashed (login_in e (login_by past user e.event e.reply))) (hash_entry past user)
   hash_cut e past = earlier_is_else (only_hashed (login_in e (login_by past user e.event e.reply))) (hash_entry past user)

@@ -1,10 +1,10 @@
 -- What holds of the entry that a step makes, over the entries before it.
-use Rattle.std.proofs.Common.{◌≡◌, ℕ, ◌<◌, ◌≤◌, ◌+◌, ◌-◌, Bool, true, false, List, [], ◌∷◌, arith, refl, sym, ap, subst, ◌∙◌, inl, inr}
-use Rattle.std.specs.Prelude.{Option, Some, None, not, max, nat_lt, ◌⊎◌, ◌==◌, ◌&&◌, ◌||◌, if◌then◌else◌}
+use Rattle.std.proofs.Common.{◌≡◌, ℕ, ◌<◌, ◌≤◌, Bool, true, false, List, [], ◌∷◌, arith, refl, sym, ap, ◌∙◌, inl, inr}
+use Rattle.std.specs.Prelude.{Option, Some, None, not, nat_lt, ◌⊎◌, ◌&&◌, if◌then◌else◌}
 use Rattle.sd_rules.specs.declared.keys.Key.{Key}
 use Rattle.sd_rules.specs.declared.keys.Key.TheVariants as keys
 use Rattle.sd_rules.specs.declared.records.Answered.{Answered}
-use Rattle.sd_rules.specs.declared.records.Answered.TheVariants.{Found, Absent}
+use Rattle.sd_rules.specs.declared.records.Answered.TheVariants.{Found}
 use Rattle.sd_rules.specs.declared.records.Record.TheVariants as records
 use Rattle.sd_rules.specs.declared.events.Event.{Event}
 use Rattle.sd_rules.specs.declared.events.Event.TheVariants as events
@@ -14,20 +14,19 @@ use Rattle.sd_rules.specs.declared.settings.Settings.{Settings}
 use Rattle.sd_rules.specs.declared.replies.By.TheVariants as by
 use Rattle.sd_rules.specs.declared.replies.NotBy.TheVariants as not_by
 use Rattle.sd_rules.specs.declared.replies.Entry.{Entry}
-use Rattle.sd_rules.specs.declared.replies.Outcome.{Outcome}
 use Rattle.sd_rules.specs.declared.replies.Outcome.TheVariants as outcomes
 use Rattle.sd_rules.specs.declared.replies.Reply.{Reply}
 use Rattle.sd_rules.specs.declared.replies.Reply.TheVariants as replies
-use Rattle.sd_rules.specs.Past.{Standing, is_closed, is_shut, key_of, newest, outage_at}
-use Rattle.sd_rules.specs.Requests.{is_open, is_open_request, is_open_attempt, asks_for, open_among, open_for, joined, waits_for, outcome_of, closes, is_try_accepted, answered_outcome, shut_outcome, outcome_by}
+use Rattle.sd_rules.specs.Past.{Standing, is_closed, key_of, newest, outage_at}
+use Rattle.sd_rules.specs.Requests.{is_open, is_open_request, is_open_attempt, asks_for, open_among, open_for, joined, waits_for, outcome_of}
 use Rattle.sd_rules.specs.Servers.{picked_server, was_picked}
 use Rattle.sd_rules.specs.Answers.{is_found, is_filtered, is_fresh, is_past_midpoint, is_renewable, reply_in_outage, reply_by_request, reply_unless_fresh, reply_if_fresh, reply_by_newest, reply_to_ask}
-use Rattle.sd_rules.specs.Logins.{Login, user_of, usable_hash, cached_login, verdict_of_try}
+use Rattle.sd_rules.specs.Logins.{Login, user_of, usable_hash, cached_login}
 use Rattle.sd_rules.specs.Access.{Asker, user_groups, asker_of, granting_rule, reply_by_rule, reply_by_book, reply_by_rules, simple_allows, access_by}
 use Rattle.sd_rules.specs.Needed.{answer_of_outcome}
-use Rattle.sd_rules.specs.Steps.{Daemon, number_after, next_number, moment_of, entry_made, is_steppable, void_since, reply_by_void, reply_to_answer, reply_by_pick, outage_outcome, outcome_in_outage, reply_to_closing_outage, reply_to_outage, reply_to_collect, reply_to_leave, reply_by_cached, reply_to_login, reply_to_look, reply_to_try, reply_to}
+use Rattle.sd_rules.specs.Steps.{Daemon, number_after, next_number, moment_of, entry_made, is_steppable, void_since, reply_by_void, reply_to_answer, reply_by_pick, outage_outcome, outcome_in_outage, reply_to_outage, reply_to_collect, reply_to_leave, reply_by_cached, reply_to_login, reply_to_look, reply_to_try, reply_to}
 use Rattle.sd_forgetting.specs.Parts.{numbers_fall}
-use Rattle.sd_forgetting.specs.Orderly.{is_no_request, named_unless, named_by, is_ask, is_answer, IsNewestAnswer}
+use Rattle.sd_forgetting.specs.Orderly.{is_no_request, named_unless, named_by, is_ask}
 use Rattle.sd_forgetting.proofs.Tests.{not_true, none_is_not, same_some, or_left, or_right, both, first_holds, second_holds, is_less, less}
 use Rattle.sd_forgetting.proofs.Shown.{pick_law}
 
@@ -192,9 +191,9 @@ module _ (s : Settings) (w : List Entry) (number t : ℕ) where
   running_open : (all xs : List Entry) (k : Key) (r : ℕ) → open_among all xs k ≡ Some r → is_open_request all r ≡ true
   running_open all [] k r h = absurd (none_is_not r h)
   running_open all (x ∷ xs) k r h = elim (running_if (asks_for x.event k) (is_open_request all x.number) x.number r (open_among all xs k) h) [
-      | inl i ↦ ap (is_open_request all) (sym i.1) ∙ i.0
-      | inr i ↦ running_open all xs k r i
-    ]
+    | inl i ↦ ap (is_open_request all) (sym i.1) ∙ i.0
+    | inr i ↦ running_open all xs k r i
+  ]
 
   -- an outage closes with the newest answer
   abbrev Newest : ℕ → Type 0

@@ -1,6 +1,6 @@
 -- The last entry that covers an answer or stops the search for one that does.
-use Rattle.std.proofs.Common.{◌≡◌, ℕ, ◌<◌, Bool, true, false, List, [], ◌∷◌, arith, refl, sym, ap, subst, ◌∙◌, inl, inr}
-use Rattle.std.specs.Prelude.{Option, Some, None, nat_lt, ◌⊎◌, ◌==◌, ◌&&◌, ◌||◌, if◌then◌else◌}
+use Rattle.std.proofs.Common.{◌≡◌, ℕ, ◌<◌, Bool, true, false, List, [], ◌∷◌, arith, refl, sym, ap, ◌∙◌, inl, inr}
+use Rattle.std.specs.Prelude.{Option, Some, None, nat_lt}
 use Rattle.sd_rules.specs.declared.keys.Key.{Key}
 use Rattle.sd_rules.specs.declared.keys.What.{What}
 use Rattle.sd_rules.specs.declared.keys.What.TheVariants as whats
@@ -8,7 +8,7 @@ use Rattle.sd_rules.specs.declared.records.Answered.{Answered}
 use Rattle.sd_rules.specs.declared.events.Event.{Event}
 use Rattle.sd_rules.specs.declared.events.Event.TheVariants as events
 use Rattle.sd_rules.specs.declared.replies.Entry.{Entry}
-use Rattle.sd_rules.specs.Keys.{same_name, covers}
+use Rattle.sd_rules.specs.Keys.{covers}
 use Rattle.sd_rules.specs.Past.{or_else, voids}
 use Rattle.sd_rules.specs.Needed.{last_where, is_last_where, is_number, same_what, is_void_of, is_last_void}
 use Rattle.sd_forgetting.specs.Parts.{part, IsAt, numbers_fall}
@@ -31,7 +31,7 @@ last_at test (x ∷ xs) n h =
     cases (test x)
     (λ t. record { entry = x; past = xs; at = inl (refl, refl); number = same_some x.number n (sym (if_true (test x) (Some x.number) (last_where test xs) t) ∙ h); meets = t })
     (λ t. let l = last_at test xs n (sym (if_false (test x) (Some x.number) (last_where test xs) t) ∙ h) in
-        record { entry = l.entry; past = l.past; at = inr l.at; number = l.number; meets = l.meets })
+    record { entry = l.entry; past = l.past; at = inr l.at; number = l.number; meets = l.meets })
 
 pub last_some : (test : Entry → Bool) (xs : List Entry) (y : Entry) (p : List Entry) → IsAt xs y p → test y ≡ true → last_where test xs ≡ None → ⊥
 last_some test [] y p at t h = at
@@ -126,10 +126,10 @@ module _ (own : Key) (answered : Answered) (stop : Entry → Bool) where
       let below = numbers_below x.number xs y p low q in
       cases (test x)
       (λ i. let k = marks x i in
-          let same : k.0 ≡ m = same_some k.0 m (sym (ap (λ (o : Option Mark). or_else o (mark_of xs)) k.1) ∙ h) in
-          let one = mark_number (voids x.event own answered) (stop x) x.number k.0 k.1 in
-          let two = ap (λ (z : Mark). z.number) same in
-          absurd (omega arith))
+      let same : k.0 ≡ m = same_some k.0 m (sym (ap (λ (o : Option Mark). or_else o (mark_of xs)) k.1) ∙ h) in
+      let one = mark_number (voids x.event own answered) (stop x) x.number k.0 k.1 in
+      let two = ap (λ (z : Mark). z.number) same in
+      absurd (omega arith))
       (λ i. if_false (test x) (Some x.number) (last_where test xs) i
       ∙ one_last test x xs y (Some m) (mark_in x) refl h (λ n g. mark_number (voids x.event own answered) (stop x) x.number n g) below
       (λ k g. ap (λ (z : Mark). z.number) (sym (same_some m k g)) ∙ is)
@@ -161,7 +161,7 @@ module _ (own : Key) (answered : Answered) (stop : Entry → Bool) where
       (all : List Entry) (keep : List Entry → Entry → Bool) (b : ℕ) (falls : numbers_fall b all ≡ true)
       (stop_kept : (e : Entry) (past : List Entry) → IsAt all e past → stop e ≡ true → mark_of all ≡ Some (record { number = e.number; covering = false }) → keep past e ≡ true)
       (void_kept : (e : Entry) (past : List Entry) (what : What) → IsAt all e past → e.event ≡ events.Void what → covers what own answered ≡ true →
-          mark_of all ≡ Some (record { number = e.number; covering = true }) → is_last_void all what e ≡ true → keep past e ≡ true) where
+      mark_of all ≡ Some (record { number = e.number; covering = true }) → is_last_void all what e ≡ true → keep past e ≡ true) where
     kept_void : (e : Entry) (past : List Entry) → IsAt all e past → voids e.event own answered ≡ true → mark_of all ≡ Some (record { number = e.number; covering = true }) → keep past e ≡ true
     kept_void e past at v h =
         let w = what_is e.event own answered v in
@@ -169,8 +169,10 @@ module _ (own : Key) (answered : Answered) (stop : Entry → Bool) where
         void_kept e past w.0 at w.1.0 w.1.1 h
         (is_last_by (λ (x : Entry). is_void_of w.0 x.event) all e tests
         (last_marked (λ (x : Entry). is_void_of w.0 x.event)
-        (λ x t. (record { number = x.number; covering = true },
-            marked_is x true (stop x) (void_of_covers w.0 x.event own answered t w.1.1) refl))
+        (λ x t. (
+          record { number = x.number; covering = true },
+          marked_is x true (stop x) (void_of_covers w.0 x.event own answered t w.1.1) refl,
+        ))
         b e past (record { number = e.number; covering = true }) all falls at tests refl h))
 
     here_by : (e : Entry) (past : List Entry) (m : Mark) (v s : Bool) → voids e.event own answered ≡ v → stop e ≡ s → IsAt all e past → mark_by v s e.number ≡ Some m → mark_of all ≡ Some m → keep past e ≡ true

@@ -1,11 +1,11 @@
 -- What is open in a journal is open in a part that keeps what is open, and every entry that closes one that is kept.
 use Rattle.std.proofs.Common.{◌≡◌, ℕ, ◌<◌, Bool, true, false, List, [], ◌∷◌, arith, refl, sym, ap, subst, ◌∙◌, inl, inr}
-use Rattle.std.specs.Prelude.{Option, Some, None, nat_lt, ◌⊎◌, ◌==◌, ◌&&◌, ◌||◌, if◌then◌else◌}
+use Rattle.std.specs.Prelude.{Option, Some, None, nat_lt, ◌⊎◌, ◌==◌, ◌||◌, if◌then◌else◌}
 use Rattle.sd_rules.specs.declared.replies.Entry.{Entry}
 use Rattle.sd_rules.specs.Requests.{closes, unclosed, opens_request, opens_attempt, has_opened_request, has_opened_attempt, is_open, is_open_request, is_open_attempt}
 use Rattle.sd_forgetting.specs.Parts.{part, entry_at, IsAt, numbers_fall}
 use Rattle.sd_forgetting.specs.Orderly.{is_lead}
-use Rattle.sd_forgetting.proofs.Tests.{not_true, none_is_not, same_some, second_holds, or_left, or_right, either, cases, clash, both_ways, if_true, if_false, equal_numbers, is_equal, differ, differ_above}
+use Rattle.sd_forgetting.proofs.Tests.{not_true, none_is_not, same_some, second_holds, or_left, or_right, cases, clash, both_ways, equal_numbers, differ_above}
 use Rattle.sd_forgetting.proofs.Places.{part_law, falls_in_part, entry_kept, kept_at, was_kept, one_of_number, numbers_below}
 
 -- an entry that is kept and closes a number below its own
@@ -44,9 +44,9 @@ unclosed_at (x ∷ xs) n y h =
     (λ c. absurd (none_is_not y (sym (at_closing (closes x.event x.reply n) x (x.number == n) (unclosed xs n) c) ∙ h)))
     (λ c. cases (x.number == n)
     (λ is. let same : x ≡ y = same_some x y (sym (at_lead (closes x.event x.reply n) x (x.number == n) (unclosed xs n) c is) ∙ h) in
-        record { past = xs; at = inl (same, refl); number = ap (λ (z : Entry). z.number) (sym same) ∙ equal_numbers x.number n is })
+    record { past = xs; at = inl (same, refl); number = ap (λ (z : Entry). z.number) (sym same) ∙ equal_numbers x.number n is })
     (λ no. let u = unclosed_at xs n y (sym (past_others (closes x.event x.reply n) x (x.number == n) (unclosed xs n) c no) ∙ h) in
-        record { past = u.past; at = inr u.at; number = u.number }))
+    record { past = u.past; at = inr u.at; number = u.number }))
 
 -- what nothing closes in the whole nothing closes in the part
 pub unclosed_kept : (keep : List Entry → Entry → Bool) (n : ℕ) (y : Entry) (xs : List Entry) →
@@ -57,12 +57,12 @@ unclosed_kept keep n y (x ∷ xs) k h =
     (λ c. absurd (none_is_not y (sym (at_closing (closes x.event x.reply n) x (x.number == n) (unclosed xs n) c) ∙ h)))
     (λ c. cases (x.number == n)
     (λ is. part_law (λ (l : List Entry). unclosed l n ≡ Some y) (keep xs x) x (part keep xs)
-        (λ _. at_lead (closes x.event x.reply n) x (x.number == n) (unclosed (part keep xs) n) c is ∙ (sym (at_lead (closes x.event x.reply n) x (x.number == n) (unclosed xs n) c is) ∙ h))
-        (λ dropped. clash (keep xs x) (k x xs (inl (refl, refl)) (equal_numbers x.number n is)) dropped))
+    (λ _. at_lead (closes x.event x.reply n) x (x.number == n) (unclosed (part keep xs) n) c is ∙ (sym (at_lead (closes x.event x.reply n) x (x.number == n) (unclosed xs n) c is) ∙ h))
+    (λ dropped. clash (keep xs x) (k x xs (inl (refl, refl)) (equal_numbers x.number n is)) dropped))
     (λ no. let rest = unclosed_kept keep n y xs (λ e past at. k e past (inr at)) (sym (past_others (closes x.event x.reply n) x (x.number == n) (unclosed xs n) c no) ∙ h) in
-        part_law (λ (l : List Entry). unclosed l n ≡ Some y) (keep xs x) x (part keep xs)
-        (λ _. past_others (closes x.event x.reply n) x (x.number == n) (unclosed (part keep xs) n) c no ∙ rest)
-        (λ _. rest)))
+    part_law (λ (l : List Entry). unclosed l n ≡ Some y) (keep xs x) x (part keep xs)
+    (λ _. past_others (closes x.event x.reply n) x (x.number == n) (unclosed (part keep xs) n) c no ∙ rest)
+    (λ _. rest)))
 
 -- an entry that closes a number below its own has it closed
 pub closed_by : (b : ℕ) (n : ℕ) (xs : List Entry) (e : Entry) (past : List Entry) → numbers_fall b xs ≡ true → IsAt xs e past → closes e.event e.reply n ≡ true → n < e.number →
@@ -110,7 +110,7 @@ module _
             let one = one_of_number b all y w.past v.0 uu.past falls w.at uu.at (u.number ∙ sym uu.number) in
             v.1 ∙ ap (λ (z : Entry). Some z) (sym one.0))
         | inr c ↦ (let gone = closed_by b n (part keep all) c.entry (part keep c.past) (falls_in_part keep b b all falls (omega arith)) (kept_at keep all c.entry c.past c.at c.kept)
-                (ap (closes c.entry.event c.entry.reply) (sym u.number) ∙ c.closing) (subst (λ m. m < c.entry.number) u.number c.above) in
+            (ap (closes c.entry.event c.entry.reply) (sym u.number) ∙ c.closing) (subst (λ m. m < c.entry.number) u.number c.above) in
             absurd (none_is_not y (sym gone ∙ h)))
       ]
 
@@ -119,19 +119,19 @@ module _
   requests_same n =
       both_ways (is_open_request all n) (is_open_request (part keep all) n)
       (λ h. let v = request_some (unclosed all n) h in
-          ap has_opened_request (stays n v.0 (or_left (is_open_request all n) (is_open_attempt all n) h) v.1) ∙ (sym (ap has_opened_request v.1) ∙ h))
+      ap has_opened_request (stays n v.0 (or_left (is_open_request all n) (is_open_attempt all n) h) v.1) ∙ (sym (ap has_opened_request v.1) ∙ h))
       (λ h. let v = request_some (unclosed (part keep all) n) h in
-          let opened : opens_request v.0.event v.0.reply ≡ true = sym (ap has_opened_request v.1) ∙ h in
-          ap has_opened_request (was n v.0 v.1 (or_left (opens_request v.0.event v.0.reply) (opens_attempt v.0.event v.0.reply) opened)) ∙ opened)
+      let opened : opens_request v.0.event v.0.reply ≡ true = sym (ap has_opened_request v.1) ∙ h in
+      ap has_opened_request (was n v.0 v.1 (or_left (opens_request v.0.event v.0.reply) (opens_attempt v.0.event v.0.reply) opened)) ∙ opened)
 
   pub attempts_same : (n : ℕ) → is_open_attempt all n ≡ is_open_attempt (part keep all) n
   attempts_same n =
       both_ways (is_open_attempt all n) (is_open_attempt (part keep all) n)
       (λ h. let v = attempt_some (unclosed all n) h in
-          ap has_opened_attempt (stays n v.0 (or_right (is_open_request all n) (is_open_attempt all n) h) v.1) ∙ (sym (ap has_opened_attempt v.1) ∙ h))
+      ap has_opened_attempt (stays n v.0 (or_right (is_open_request all n) (is_open_attempt all n) h) v.1) ∙ (sym (ap has_opened_attempt v.1) ∙ h))
       (λ h. let v = attempt_some (unclosed (part keep all) n) h in
-          let opened : opens_attempt v.0.event v.0.reply ≡ true = sym (ap has_opened_attempt v.1) ∙ h in
-          ap has_opened_attempt (was n v.0 v.1 (or_right (opens_request v.0.event v.0.reply) (opens_attempt v.0.event v.0.reply) opened)) ∙ opened)
+      let opened : opens_attempt v.0.event v.0.reply ≡ true = sym (ap has_opened_attempt v.1) ∙ h in
+      ap has_opened_attempt (was n v.0 v.1 (or_right (opens_request v.0.event v.0.reply) (opens_attempt v.0.event v.0.reply) opened)) ∙ opened)
 
   pub leads_same : (n : ℕ) → is_open all n ≡ true → entry_at all n ≡ entry_at (part keep all) n
   leads_same n o = entry_kept keep n all (kept_number n o)

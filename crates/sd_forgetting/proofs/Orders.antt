@@ -1,6 +1,6 @@
 -- A step keeps a journal orderly.
 use Rattle.std.proofs.Common.{◌≡◌, ℕ, ◌<◌, ◌≤◌, ◌+◌, Bool, true, false, List, [], ◌∷◌, arith, refl, sym, ap, subst, ◌∙◌, inl, inr}
-use Rattle.std.specs.Prelude.{Option, Some, None, not, max, is_some, nat_lt, nat_le, ◌⊎◌, ◌==◌, ◌&&◌, ◌||◌, if◌then◌else◌}
+use Rattle.std.specs.Prelude.{Option, Some, None, not, max, is_some, nat_lt, nat_le, ◌==◌, ◌&&◌, ◌||◌, if◌then◌else◌}
 use Rattle.std.proofs.lemmas.Bool.Decides.{nat_tests}
 use Rattle.sd_rules.specs.declared.keys.Key.{Key}
 use Rattle.sd_rules.specs.declared.records.Answered.{Answered}
@@ -11,17 +11,18 @@ use Rattle.sd_rules.specs.declared.events.Row.TheVariants as rows
 use Rattle.sd_rules.specs.declared.replies.Entry.{Entry}
 use Rattle.sd_rules.specs.declared.replies.Reply.{Reply}
 use Rattle.sd_rules.specs.Keys.{same_key, record_speaks, speaks_of}
-use Rattle.sd_rules.specs.Past.{Standing, or_else, is_closed, key_of, answer_under, answer_by, answer_in, spoken, newest, records_outage, ends_outage}
+use Rattle.sd_rules.specs.Past.{Standing, or_else, is_closed, key_of, answer_under, answer_by, spoken, newest, records_outage, ends_outage}
 use Rattle.sd_rules.specs.Requests.{closes, unclosed, has_opened_request, has_opened_attempt, is_open, is_open_request, ends_waiting, joined, waits_for, outcome_by, outcome_of}
 use Rattle.sd_rules.specs.Needed.{answer_of_outcome, read_with}
-use Rattle.sd_rules.specs.Steps.{Daemon, moment_after, next_number, moment_of, entry_made, after, is_steppable}
-use Rattle.sd_forgetting.specs.Parts.{entry_at, last_entry, IsAt, numbers_fall, moments_fall}
-use Rattle.sd_forgetting.specs.Orderly.{is_below, are_leads, names_leads, named_by, is_ask, is_lead, entry_fits, entries_fit, is_answer, holds_answer, is_word, last_word, closed_or_open, head_is_open, IsNewestAnswer, IsOrderly}
-use Rattle.sd_forgetting.proofs.Tests.{not_true, none_is_not, same_some, both, or_left, or_right, either, first_holds, second_holds, cases, clash, is_false, if_true, if_false, same_number, equal_numbers, is_equal, less, differ_above}
+use Rattle.sd_rules.specs.Steps.{Daemon, moment_after, next_number, moment_of, entry_made, is_steppable}
+use Rattle.sd_forgetting.specs.Parts.{entry_at, IsAt, numbers_fall, moments_fall}
+use Rattle.sd_forgetting.specs.Orderly.{is_below, leads_or_other, are_leads, names_leads, named_by, is_ask, is_lead, entry_fits, entries_fit, is_answer, holds_answer, is_word, last_word, closed_or_open, IsNewestAnswer, IsOrderly}
+use Rattle.sd_forgetting.proofs.Tests.{not_true, none_is_not, same_some, both, or_left, or_right, second_holds, cases, clash, is_false, if_true, if_false, equal_numbers, is_equal, less, differ_above}
 use Rattle.sd_forgetting.proofs.Places.{found_at, at_is_entry, one_of_number, numbers_below}
-use Rattle.sd_forgetting.proofs.Opens.{opened_some, unclosed_at, request_some}
-use Rattle.sd_forgetting.proofs.Answers.{same_key_same, answer_number, newest_at, NewestAt}
-use Rattle.sd_forgetting.proofs.Quiet.{reader_named}
+use Rattle.sd_forgetting.proofs.Opens.{opened_some, unclosed_at, closed_by}
+use Rattle.sd_forgetting.proofs.Answers.{same_key_same, newest_at}
+use Rattle.sd_forgetting.proofs.Quiet.{closes_named, reader_named}
+use Rattle.sd_forgetting.proofs.Whys.{fits_at, about_below}
 use Rattle.sd_forgetting.proofs.Steps.{outcome_kind}
 use Rattle.sd_forgetting.proofs.Made.{IsMade, is_held, made_over}
 
@@ -63,14 +64,17 @@ made_answer past e r answered own c k event is =
     ap (answer_by past e) is
     ∙ (if_true (is_closed e.reply) (answer_under e answered (key_of past r)) None c ∙ ap (answer_under e answered) k)
 
-leads_all : (n : ℕ) (xs : List Entry) → ((x : Entry) (q : List Entry) → IsAt xs x q → x.number ≡ n → is_lead x ≡ true) → are_leads n xs ≡ true
-leads_all n [] f = refl
-leads_all n (x ∷ xs) f =
-    both (not (x.number == n) || is_lead x) (are_leads n xs)
+leads_all : (n : ℕ) (xs : List Entry) → ((x : Entry) (q : List Entry) → IsAt xs x q → x.number ≡ n → is_lead x ≡ true) →
+    ((x : Entry) (q : List Entry) → IsAt xs x q → closes x.event x.reply n ≡ false) → are_leads n xs ≡ true
+leads_all n [] f g = refl
+leads_all n (x ∷ xs) f g =
+    both (leads_or_other n x) (are_leads n xs)
+    (both (not (x.number == n) || is_lead x) (not (closes x.event x.reply n))
     (cases (x.number == n)
     (λ is. or_right (not (x.number == n)) (is_lead x) (f x xs (inl (refl, refl)) (equal_numbers x.number n is)))
     (λ other. or_left (not (x.number == n)) (is_lead x) (ap not other)))
-    (leads_all n xs (λ y q at. f y q (inr at)))
+    (ap not (g x xs (inl (refl, refl)))))
+    (leads_all n xs (λ y q at. f y q (inr at)) (λ y q at. g y q (inr at)))
 
 open_below : (b r : ℕ) (xs : List Entry) → numbers_fall b xs ≡ true → is_open xs r ≡ true → r < b
 open_below b r xs f h =
@@ -78,13 +82,16 @@ open_below b r xs f h =
     let u = unclosed_at xs r v.0 v.1 in
     subst (λ (n : ℕ). n < b) u.number (numbers_below b xs v.0 u.past f u.at)
 
-open_leads : (b r : ℕ) (xs : List Entry) → numbers_fall b xs ≡ true → is_open xs r ≡ true → are_leads r xs ≡ true
-open_leads b r xs f h =
+open_leads : (b r : ℕ) (xs : List Entry) → numbers_fall b xs ≡ true → entries_fit xs ≡ true → is_open xs r ≡ true → are_leads r xs ≡ true
+open_leads b r xs f g h =
     let v = opened_some (unclosed xs r) h in
     let u = unclosed_at xs r v.0 v.1 in
     leads_all r xs
     (λ x q at is. let one = one_of_number b xs x q v.0 u.past f at u.at (is ∙ sym u.number) in
-        ap is_lead one.0 ∙ (sym (ap (λ (y : Option Entry). has_opened_request y || has_opened_attempt y) v.1) ∙ h))
+    ap is_lead one.0 ∙ (sym (ap (λ (y : Option Entry). has_opened_request y || has_opened_attempt y) v.1) ∙ h))
+    (λ x q at. is_false (closes x.event x.reply r)
+    (λ c. none_is_not v.0
+    (sym (closed_by b r xs x q f at c (about_below q x r (fits_at xs x q g at) (closes_named x.event x.reply r c))) ∙ v.1)))
 
 asks_or : (j a : Bool) → (j ≡ true → a ≡ true) → (not j || a) ≡ true
 asks_or true a f = f refl
@@ -115,7 +122,7 @@ module _ (next : ℕ) (w : List Entry) (e : Entry) (o : IsOrderly next w) (m : I
       by_name : (n : Option ℕ) → named_by e.event e.reply ≡ n → (is_below n e.number && names_leads n w) ≡ true
       by_name None is = refl
       by_name (Some r) is =
-          both (nat_lt r e.number) (are_leads r w) (less r e.number (open_below e.number r w m.above (m.about r is))) (open_leads e.number r w m.above (m.about r is))
+          both (nat_lt r e.number) (are_leads r w) (less r e.number (open_below e.number r w m.above (m.about r is))) (open_leads e.number r w m.above o.fits (m.about r is))
 
       by_join : (j : Option ℕ) → joined e.reply ≡ j → is_some j ≡ true → is_ask e.event ≡ true
       by_join None is h = absurd (not_true h)
@@ -152,15 +159,15 @@ module _ (next : ℕ) (w : List Entry) (e : Entry) (o : IsOrderly next w) (m : I
   ended_here x is h =
       cases (is_word e)
       (λ t. let same : e ≡ x = same_some e x (sym (ap (λ (y : Option Entry). or_else y (last_word w)) (if_true (is_word e) (Some e) None t)) ∙ is) in
-          subst (λ (y : Entry). IsNewestAnswer (e ∷ w) y.number) same (own_newest (ap (λ (y : Entry). is_answer y.event y.reply) same ∙ h)))
+      subst (λ (y : Entry). IsNewestAnswer (e ∷ w) y.number) same (own_newest (ap (λ (y : Entry). is_answer y.event y.reply) same ∙ h)))
       (λ t. let n = o.ended x (sym (ap (λ (y : Option Entry). or_else y (last_word w)) (if_false (is_word e) (Some e) None t)) ∙ is) h in
-          let none = no_answer w e e.event (is_false (is_answer e.event e.reply) (λ a. not_true (sym t ∙ answer_is_word e.event e.reply m.stepped a))) in
-          record {
-            own = n.own;
-            answer = n.answer;
-            is_newest = ap (λ (y : Option Standing). or_else (spoken n.own y) (newest w n.own)) none ∙ n.is_newest;
-            number = n.number;
-          })
+      let none = no_answer w e e.event (is_false (is_answer e.event e.reply) (λ a. not_true (sym t ∙ answer_is_word e.event e.reply m.stepped a))) in
+      record {
+        own = n.own;
+        answer = n.answer;
+        is_newest = ap (λ (y : Option Standing). or_else (spoken n.own y) (newest w n.own)) none ∙ n.is_newest;
+        number = n.number;
+      })
 
   holds_if : (s : Bool) (y : Option Entry) → (s ≡ true → is_answer e.event e.reply ≡ true) → (s ≡ false → holds_answer y ≡ true) → holds_answer (if s then Some e else y) ≡ true
   holds_if true y f g = f refl
@@ -194,9 +201,10 @@ module _ (next : ℕ) (w : List Entry) (e : Entry) (o : IsOrderly next w) (m : I
   -- an answer that the newest of a key is stands in the journal, and holds an answer
   newest_holds : (k : Key) (a : Standing) → newest w k ≡ Some a → (holds_answer (entry_at w a.number) ≡ true) × (a.number < e.number)
   newest_holds k a is =
-      let n = newest_at w k a is in
-      (ap holds_answer (ap (entry_at w) n.number ∙ at_is_entry next w n.entry n.past o.numbers n.at) ∙ answer_held n.past n.entry n.entry.event a n.answer,
-      subst (λ (i : ℕ). i < e.number) (sym n.number) (numbers_below e.number w n.entry n.past m.above n.at))
+      let n = newest_at w k a is in (
+        ap holds_answer (ap (entry_at w) n.number ∙ at_is_entry next w n.entry n.past o.numbers n.at) ∙ answer_held n.past n.entry n.entry.event a n.answer,
+        subst (λ (i : ℕ). i < e.number) (sym n.number) (numbers_below e.number w n.entry n.past m.above n.at),
+      )
 
   entry_below : (n : ℕ) → holds_answer (entry_at w n) ≡ true → n < e.number
   entry_below n h = by (entry_at w n) refl h
@@ -209,16 +217,16 @@ module _ (next : ℕ) (w : List Entry) (e : Entry) (o : IsOrderly next w) (m : I
   named_here t r n h closed names =
       cases (closes e.event e.reply r)
       (λ c. elim (outcome_kind e.number e.event e.reply r n c
-          (sym (ap answer_of_outcome (if_true (closes e.event e.reply r) (outcome_by e.number e.event e.reply) (outcome_of w r) c)) ∙ names)) [
+      (sym (ap answer_of_outcome (if_true (closes e.event e.reply r) (outcome_by e.number e.event e.reply) (outcome_of w r) c)) ∙ names)) [
         | inl own ↦ holds_if (e.number == n) (entry_at w n) (λ _. own.1) (λ other. absurd (not_true (sym other ∙ is_equal e.number n (sym own.0))))
         | inr shut ↦ (let s = m.shuts n shut in
             let held = newest_holds s.0 s.1.0 s.1.1.0 in
             below_holds n (ap (λ (i : ℕ). holds_answer (entry_at w i)) (sym s.1.1.1) ∙ held.0) (subst (λ (i : ℕ). i < e.number) s.1.1.1 held.1))
       ])
       (λ c. let was_closed = stays_closed r c closed in
-          let held = o.named t r n (waited t r h was_closed) was_closed
-              (sym (ap answer_of_outcome (if_false (closes e.event e.reply r) (outcome_by e.number e.event e.reply) (outcome_of w r) c)) ∙ names) in
-          below_holds n held (entry_below n held))
+      let held = o.named t r n (waited t r h was_closed) was_closed
+      (sym (ap answer_of_outcome (if_false (closes e.event e.reply r) (outcome_by e.number e.event e.reply) (outcome_of w r) c)) ∙ names) in
+      below_holds n held (entry_below n held))
 
   pub orderly_made : (latest : ℕ) → e.moment ≡ latest → moments_fall latest w ≡ true → IsOrderly (e.number + 1) (e ∷ w)
   orderly_made latest is f = record {

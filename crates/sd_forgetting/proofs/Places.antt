@@ -1,13 +1,13 @@
 -- Entries by their places in a journal and in a part of it.
 use Rattle.std.proofs.Common.{◌≡◌, ℕ, ◌<◌, ◌≤◌, Bool, true, false, List, [], ◌∷◌, arith, refl, sym, ap, subst, ◌∙◌, inl, inr}
-use Rattle.std.specs.Prelude.{Option, Some, None, nat_lt, ◌⊎◌, ◌==◌, ◌&&◌, ◌||◌, if◌then◌else◌}
+use Rattle.std.specs.Prelude.{Option, Some, None, nat_lt, ◌⊎◌, ◌==◌, if◌then◌else◌}
 use Rattle.sd_rules.specs.declared.replies.Entry.{Entry}
 use Rattle.sd_rules.specs.declared.keys.Key.{Key}
 use Rattle.sd_rules.specs.Past.{key_asked, key_of}
 use Rattle.sd_rules.specs.Logins.{user_opened, user_of}
 use Rattle.sd_rules.specs.Needed.{needed_among, is_needed}
 use Rattle.sd_forgetting.specs.Parts.{part, entry_at, IsAt, numbers_fall}
-use Rattle.sd_forgetting.proofs.Tests.{not_true, none_is_not, same_some, both, first_holds, second_holds, cases, if_true, if_false, same_number, equal_numbers, is_equal, is_less, less, differ, differ_above}
+use Rattle.sd_forgetting.proofs.Tests.{not_true, none_is_not, same_some, both, first_holds, second_holds, cases, if_true, if_false, equal_numbers, is_equal, is_less, less, differ, differ_above}
 
 -- what a forget keeps is the part that is needed
 pub needed_is_part : (all past : List Entry) → needed_among all past ≡ part (is_needed all) past
@@ -190,9 +190,9 @@ found_at [] n e h = absurd (none_is_not e h)
 found_at (x ∷ xs) n e h =
     cases (x.number == n)
     (λ is. let same : x ≡ e = same_some x e (sym (if_true (x.number == n) (Some x) (entry_at xs n) is) ∙ h) in
-        (xs, (inl (same, refl), ap (λ (y : Entry). y.number) (sym same) ∙ equal_numbers x.number n is)))
+    (xs, (inl (same, refl), ap (λ (y : Entry). y.number) (sym same) ∙ equal_numbers x.number n is)))
     (λ no. let f = found_at xs n e (sym (if_false (x.number == n) (Some x) (entry_at xs n) no) ∙ h) in
-        (f.0, (inr f.1.0, f.1.1)))
+    (f.0, (inr f.1.0, f.1.1)))
 
 -- an entry of falling numbers is the entry of its number
 pub at_is_entry : (b : ℕ) (xs : List Entry) (e : Entry) (q : List Entry) → numbers_fall b xs ≡ true → IsAt xs e q → entry_at xs e.number ≡ Some e
@@ -239,13 +239,13 @@ user_kept xs ys n h = user_by_entry xs n ∙ (ap user_in h ∙ sym (user_by_entr
 pub key_or_none : (keep : List Entry → Entry → Bool) (b : ℕ) (xs : List Entry) → numbers_fall b xs ≡ true → (n : ℕ) →
     (key_of (part keep xs) n ≡ key_of xs n) ⊎ (key_of (part keep xs) n ≡ None)
 key_or_none keep b xs f n = elim (entry_or_none keep b n xs f) [
-    | inl h ↦ inl (key_kept (part keep xs) xs n h)
-    | inr h ↦ inr (key_by_entry (part keep xs) n ∙ ap key_in h)
-  ]
+  | inl h ↦ inl (key_kept (part keep xs) xs n h)
+  | inr h ↦ inr (key_by_entry (part keep xs) n ∙ ap key_in h)
+]
 
 pub user_or_none : (keep : List Entry → Entry → Bool) (b : ℕ) (xs : List Entry) → numbers_fall b xs ≡ true → (n : ℕ) →
     (user_of (part keep xs) n ≡ user_of xs n) ⊎ (user_of (part keep xs) n ≡ None)
 user_or_none keep b xs f n = elim (entry_or_none keep b n xs f) [
-    | inl h ↦ inl (user_kept (part keep xs) xs n h)
-    | inr h ↦ inr (user_by_entry (part keep xs) n ∙ ap user_in h)
-  ]
+  | inl h ↦ inl (user_kept (part keep xs) xs n h)
+  | inr h ↦ inr (user_by_entry (part keep xs) n ∙ ap user_in h)
+]

@@ -1,6 +1,6 @@
 -- Which reasons to look at an entry its event leaves.
-use Rattle.std.proofs.Common.{◌≡◌, ℕ, Bool, true, false, List, [], ◌∷◌, refl, sym, ap, ◌∙◌}
-use Rattle.std.specs.Prelude.{Option, Some, None, not, is_some, ◌==◌, ◌&&◌, ◌||◌, if◌then◌else◌}
+use Rattle.std.proofs.Common.{◌≡◌, ℕ, Bool, true, false, List, refl, sym, ap, ◌∙◌}
+use Rattle.std.specs.Prelude.{Some, None, not, ◌==◌, ◌&&◌, ◌||◌, if◌then◌else◌}
 use Rattle.sd_rules.specs.declared.records.Answered.{Answered}
 use Rattle.sd_rules.specs.declared.events.Event.{Event}
 use Rattle.sd_rules.specs.declared.events.Event.TheVariants as events
@@ -16,8 +16,8 @@ use Rattle.sd_rules.specs.Servers.{is_online}
 use Rattle.sd_rules.specs.Steps.{asks_again, is_again}
 use Rattle.sd_rules.specs.Logins.{wrongs}
 use Rattle.sd_rules.specs.Needed.{is_void_needed, serves_open, is_fall_needed, user_logged_in, user_guessed, is_stop, is_tried, is_last_again, read_with}
-use Rattle.sd_forgetting.specs.Orderly.{is_no_request, named_unless, named_by, is_ask, is_lead, is_answer}
-use Rattle.sd_forgetting.proofs.Tests.{not_true, none_is_not, same_some, both, either, first_holds, second_holds, cases, equal_numbers, is_equal}
+use Rattle.sd_forgetting.specs.Orderly.{is_no_request, named_unless, named_by, is_ask, is_answer}
+use Rattle.sd_forgetting.proofs.Tests.{not_true, none_is_not, same_some, both, either, first_holds, second_holds, equal_numbers, is_equal}
 
 -- events that are looked at only as what is open or waits, as a guess that counts, or as the last
 abbrev pub is_quiet : Event → Reply → Bool
@@ -108,7 +108,6 @@ quiet_holds (events.LoginTry a named right) reply h = refl
 quiet_holds (events.Kept (rows.Wrong n m u count)) reply h = refl
 quiet_holds (events.Answer r answered) reply h = not_if (is_closed reply) h
 quiet_holds _ reply h = absurd (not_true h)
-
 
 -- leading entries
 lead_alone : (reply : Reply) → requests.is_lead reply ≡ true → joined reply ≡ None

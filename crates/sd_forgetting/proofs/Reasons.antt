@@ -1,6 +1,6 @@
 -- Why an entry is looked at, one reason at a time.
-use Rattle.std.proofs.Common.{◌≡◌, ℕ, Bool, true, false, List, [], ◌∷◌, refl, sym, ap, ◌∙◌}
-use Rattle.std.specs.Prelude.{Option, Some, None, is_some, ◌&&◌, ◌||◌}
+use Rattle.std.proofs.Common.{◌≡◌, Bool, true, List}
+use Rattle.std.specs.Prelude.{is_some, ◌||◌}
 use Rattle.sd_rules.specs.declared.replies.Entry.{Entry}
 use Rattle.sd_rules.specs.Requests.{is_open, waits_for}
 use Rattle.sd_rules.specs.Needed.{is_number, is_newest_answer, is_void_needed, serves_open, is_fall_needed, is_last_online, last_outage, serves_waiting, is_login_needed, user_logged_in, is_wrong_needed, user_guessed, is_last_stop, is_last, is_looked_at}

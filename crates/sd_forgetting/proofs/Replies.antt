@@ -1,5 +1,5 @@
 -- A reply is the same over a journal and over what is kept of it.
-use Rattle.std.proofs.Common.{◌≡◌, ℕ, ◌+◌, ◌-◌, Bool, true, false, List, [], ◌∷◌, arith, refl, sym, ap, subst, ◌∙◌}
+use Rattle.std.proofs.Common.{◌≡◌, ℕ, ◌+◌, ◌-◌, Bool, true, false, List, [], ◌∷◌, refl, sym, ap, ◌∙◌}
 use Rattle.std.specs.Prelude.{Option, Some, None, not, nat_lt, find, is_some, ◌≢◌, ◌==◌, ◌&&◌, ◌||◌, ◌%◌, if◌then◌else◌}
 use Rattle.std.specs.List.{range_with_len}
 use Rattle.sd_rules.specs.declared.keys.Key.{Key}
@@ -16,18 +16,17 @@ use Rattle.sd_rules.specs.declared.replies.Reply.{Reply}
 use Rattle.sd_rules.specs.declared.replies.Reply.TheVariants as replies
 use Rattle.sd_rules.specs.declared.replies.Verdict.{Verdict}
 use Rattle.sd_rules.specs.declared.replies.Verdict.TheVariants as verdicts
-use Rattle.sd_rules.specs.Keys.{same_key}
-use Rattle.sd_rules.specs.Past.{Standing, or_else, key_of, newest, is_void_after, is_voided, records_outage, ends_outage, outage_at}
+use Rattle.sd_rules.specs.Past.{Standing, or_else, key_of, newest, is_void_after, records_outage, ends_outage, outage_at}
 use Rattle.sd_rules.specs.Requests.{reserves, is_open, is_open_request, is_open_attempt, asks_for, open_among, open_for, waits_for, outcome_of}
 use Rattle.sd_rules.specs.Servers.{has_fallen_under, has_fallen_lately, is_down, picked_server, was_picked}
-use Rattle.sd_rules.specs.Answers.{is_filtered, is_fresh, timeout_of, reply_unless_fresh, reply_if_fresh, reply_by_newest, reply_to_ask}
-use Rattle.sd_rules.specs.Logins.{Login, user_of, only_hashed, hash_entry, last_online_login, wrong_count, last_wrong, is_at_limit, block_until, block_of, usable_hash, usable_login, still_cached, cached_login, is_expired, expiry_of, verdict_unless_blocked, verdict_by_hash, verdict_of, verdict_by_login, verdict_of_try}
-use Rattle.sd_rules.specs.Access.{Asker, groups_of_user, groups_of_host, user_groups, asker_of, reply_by_rules, reply_by_lists, simple_allows, access_by, access_of}
-use Rattle.sd_rules.specs.Steps.{void_since, reply_by_void, reply_to_answer, reply_by_pick, outage_outcome, outcome_in_outage, reply_to_closing_outage, reply_to_outage, reply_to_collect, reply_to_leave, reply_by_cached, reply_to_login, reply_to_look, reply_to_try, reply_to}
-use Rattle.sd_forgetting.specs.Parts.{part, entry_at, last_entry}
-use Rattle.sd_forgetting.specs.Orderly.{is_word, last_word}
+use Rattle.sd_rules.specs.Answers.{is_filtered, timeout_of, reply_unless_fresh, reply_if_fresh, reply_by_newest, reply_to_ask}
+use Rattle.sd_rules.specs.Logins.{Login, user_of, only_hashed, wrong_count, last_wrong, is_at_limit, block_until, block_of, usable_hash, usable_login, still_cached, cached_login, is_expired, expiry_of, verdict_unless_blocked, verdict_by_hash, verdict_of, verdict_by_login}
+use Rattle.sd_rules.specs.Access.{Asker, groups_of_user, groups_of_host, user_groups, asker_of, reply_by_rules, reply_by_lists, simple_allows, access_by}
+use Rattle.sd_rules.specs.Steps.{reply_by_void, reply_to_answer, reply_by_pick, outage_outcome, outcome_in_outage, reply_to_closing_outage, reply_to_outage, reply_to_collect, reply_to_leave, reply_by_cached, reply_to_login, reply_to_look, reply_to_try, reply_to}
+use Rattle.sd_forgetting.specs.Parts.{part}
+use Rattle.sd_forgetting.specs.Orderly.{last_word}
 use Rattle.sd_forgetting.specs.Kept.{reserving, SameOpen, IsKeptOf}
-use Rattle.sd_forgetting.proofs.Tests.{not_true, or_left, or_right, first_holds, second_holds, cases, clash, is_false, if_true, if_false, is_equal, equal_numbers}
+use Rattle.sd_forgetting.proofs.Tests.{not_true, or_left, or_right, second_holds, cases, is_false, if_true, if_false, is_equal}
 use Rattle.sd_forgetting.proofs.Places.{key_kept, user_kept}
 use Rattle.sd_forgetting.proofs.Forgets.{open_both}
 
@@ -57,7 +56,7 @@ among_reserving all r f k (x ∷ xs) =
     (λ h. ap (λ (y : Option ℕ). if asks_for x.event k && is_open_request all x.number then Some x.number else y) rest
     ∙ ap (λ (l : List Entry). open_among all l k) (sym (if_true (r x.number) (x ∷ part (λ before (e : Entry). r e.number) xs) (part (λ before (e : Entry). r e.number) xs) h)))
     (λ h. if_false (asks_for x.event k && is_open_request all x.number) (Some x.number) (open_among all xs k)
-        (is_false (asks_for x.event k && is_open_request all x.number) (λ b. not_true (sym h ∙ f x.number (second_holds (asks_for x.event k) (is_open_request all x.number) b))))
+    (is_false (asks_for x.event k && is_open_request all x.number) (λ b. not_true (sym h ∙ f x.number (second_holds (asks_for x.event k) (is_open_request all x.number) b))))
     ∙ (rest ∙ ap (λ (l : List Entry). open_among all l k) (sym (if_false (r x.number) (x ∷ part (λ before (e : Entry). r e.number) xs) (part (λ before (e : Entry). r e.number) xs) h))))
 
 among_same : (w p : List Entry) → ((n : ℕ) → is_open_request w n ≡ is_open_request p n) → (k : Key) (xs : List Entry) → open_among w xs k ≡ open_among p xs k

@@ -1,17 +1,16 @@
 -- Forgetting changes nothing, for every run.
-use Rattle.std.proofs.Common.{◌≡◌, ℕ, ◌<◌, ◌≤◌, ◌+◌, Bool, true, false, List, [], ◌∷◌, arith, refl, sym, ap, subst, ◌∙◌}
-use Rattle.std.specs.Prelude.{not, nat_lt, ◌&&◌, ◌||◌}
+use Rattle.std.proofs.Common.{◌≡◌, ℕ, ◌+◌, Bool, true, false, List, [], ◌∷◌, refl, sym, ap, subst, ◌∙◌}
+use Rattle.std.specs.Prelude.{not, ◌&&◌}
 use Rattle.sd_rules.specs.declared.events.Event.{Event}
-use Rattle.sd_rules.specs.declared.settings.Settings.{Settings}
 use Rattle.sd_rules.specs.declared.replies.Entry.{Entry}
 use Rattle.sd_rules.specs.declared.replies.Given.{Given}
-use Rattle.sd_rules.specs.Steps.{Daemon, next_number, entry_made, after, given, is_full, is_steppable}
+use Rattle.sd_rules.specs.Steps.{Daemon, entry_made, after, given, is_full, is_steppable}
 use Rattle.sd_rules.specs.Needed.{needed}
-use Rattle.sd_rules.specs.Reaching.{Move, Append, Forget, after_forget, after_moves, can_move, can_make}
+use Rattle.sd_rules.specs.Reaching.{Move, Append, Forget, after_moves, can_make}
 use Rattle.sd_forgetting.specs.Orderly.{IsOrderly}
-use Rattle.sd_forgetting.specs.Kept.{SameOpen, IsKeptOf, Keeps}
+use Rattle.sd_forgetting.specs.Kept.{IsKeptOf, Keeps}
 use Rattle.sd_forgetting.specs.Runs.{without_forgets, moves_given, moves_have_room, ForgetsNothing}
-use Rattle.sd_forgetting.proofs.Tests.{not_true, both, first_holds, second_holds, is_false, cases, clash}
+use Rattle.sd_forgetting.proofs.Tests.{not_true, both, first_holds, second_holds}
 use Rattle.sd_forgetting.proofs.Forgets.{needed_kept, needed_orderly}
 use Rattle.sd_forgetting.proofs.Daemons.{over, entry_over, given_over, after_over, steppable_over, full_over, kept_over}
 use Rattle.sd_forgetting.proofs.Orders.{orderly_after}
@@ -58,15 +57,16 @@ runs d p [] b h = (refl, refl, (λ r. refl), (p, (refl, b)))
 runs d p (Append t event ∷ moves) b h =
     let can = first_holds (is_steppable d.past event) (can_make (after d t event) (without_forgets moves)) h in
     let rest = runs (after d t event) (entry_made d t event ∷ p) moves (beside_after d p t event can b)
-        (second_holds (is_steppable d.past event) (can_make (after d t event) (without_forgets moves)) h) in
-    let same = after_over d p b.kept t event in
-    (ap (λ (x : Daemon). given (over d p) t event ∷ moves_given x moves) same
-    ∙ (ap (λ (g : Given). g ∷ moves_given (over (after d t event) (entry_made d t event ∷ p)) moves) (sym (given_over d p b.kept t event))
-    ∙ ap (λ (l : List Given). given d t event ∷ l) rest.0),
-    both (is_steppable p event) (can_make (after (over d p) t event) moves) (sym (steppable_over d p b.kept event) ∙ can) (ap (λ (x : Daemon). can_make x moves) same ∙ rest.1),
-    room_and (is_full d event) (is_full (over d p) event) (moves_have_room (after d t event) (without_forgets moves)) (moves_have_room (after (over d p) t event) moves)
-    (full_over d p b.kept event) (λ r. ap (λ (x : Daemon). moves_have_room x moves) same ∙ rest.2 r),
-    (rest.3.0, (ap (λ (x : Daemon). after_moves x moves) same ∙ rest.3.1.0, rest.3.1.1)))
+    (second_holds (is_steppable d.past event) (can_make (after d t event) (without_forgets moves)) h) in
+    let same = after_over d p b.kept t event in (
+      ap (λ (x : Daemon). given (over d p) t event ∷ moves_given x moves) same
+          ∙ (ap (λ (g : Given). g ∷ moves_given (over (after d t event) (entry_made d t event ∷ p)) moves) (sym (given_over d p b.kept t event))
+          ∙ ap (λ (l : List Given). given d t event ∷ l) rest.0),
+      both (is_steppable p event) (can_make (after (over d p) t event) moves) (sym (steppable_over d p b.kept event) ∙ can) (ap (λ (x : Daemon). can_make x moves) same ∙ rest.1),
+      room_and (is_full d event) (is_full (over d p) event) (moves_have_room (after d t event) (without_forgets moves)) (moves_have_room (after (over d p) t event) moves)
+          (full_over d p b.kept event) (λ r. ap (λ (x : Daemon). moves_have_room x moves) same ∙ rest.2 r),
+      (rest.3.0, (ap (λ (x : Daemon). after_moves x moves) same ∙ rest.3.1.0, rest.3.1.1)),
+    )
 runs d p (Forget ∷ moves) b h = runs d (needed p) moves (beside_forget d p b) h
 
 -- one daemon over the entries that another keeps of it

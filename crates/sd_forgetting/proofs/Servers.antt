@@ -1,18 +1,17 @@
 -- The falls, the picks and the word that the directory can be reached are the same in a part that keeps the last of them.
-use Rattle.std.proofs.Common.{◌≡◌, ℕ, ◌<◌, ◌≤◌, ◌+◌, Bool, true, false, List, [], ◌∷◌, arith, refl, sym, ap, subst, ◌∙◌, inl, inr}
+use Rattle.std.proofs.Common.{◌≡◌, ℕ, ◌≤◌, ◌+◌, Bool, true, false, List, [], ◌∷◌, arith, refl, sym, ap, ◌∙◌, inl, inr}
 use Rattle.std.specs.Prelude.{Option, Some, None, nat_lt, nat_le, ◌⊎◌, ◌==◌, ◌&&◌, ◌||◌, if◌then◌else◌}
 use Rattle.std.proofs.lemmas.Bool.Decides.{nat_tests}
 use Rattle.sd_rules.specs.declared.events.Event.{Event}
 use Rattle.sd_rules.specs.declared.events.Event.TheVariants as events
 use Rattle.sd_rules.specs.declared.events.Row.TheVariants as rows
 use Rattle.sd_rules.specs.declared.replies.Entry.{Entry}
-use Rattle.sd_rules.specs.declared.replies.Reply.{Reply}
 use Rattle.sd_rules.specs.Past.{or_else}
 use Rattle.sd_rules.specs.Requests.{is_open}
 use Rattle.sd_rules.specs.Servers.{is_noted, falls_under, has_fallen_under, is_fall_of, is_online, has_fallen_lately, is_pick_of, is_server, was_picked}
 use Rattle.sd_rules.specs.Needed.{last_where, is_number, serves_open, is_last_pick, last_fall, is_fall_needed, is_last_online}
 use Rattle.sd_forgetting.specs.Parts.{part, last_entry, IsAt, moments_fall}
-use Rattle.sd_forgetting.proofs.Tests.{not_true, both, or_left, first_holds, second_holds, cases, clash, is_false, if_true, if_false, or_false, same_number, equal_numbers, is_equal}
+use Rattle.sd_forgetting.proofs.Tests.{not_true, both, first_holds, second_holds, cases, clash, is_false, if_true, if_false, or_false, same_number, equal_numbers}
 use Rattle.sd_forgetting.proofs.Places.{part_law, keeps_if}
 use Rattle.sd_forgetting.proofs.Lasts.{number_in, where_is_entry, last_same}
 use Rattle.sd_forgetting.proofs.Marks.{is_last_by}
@@ -108,28 +107,28 @@ module _
       let at = within x xs (inl (refl, refl)) in
       cases (is_online x.event)
       (λ c. let k = online_kept x xs at (is_last_by (λ (y : Entry). is_online y.event) all x c
-              (on ∙ if_true (is_online x.event) (Some x.number) (last_where (λ (y : Entry). is_online y.event) xs) c)) in
-          keeps_if (λ (l : List Entry). has_fallen_lately l t i) (keep xs x) x (part keep xs) (has_fallen_lately (x ∷ xs) t i)
-          (λ _. online_here (is_online x.event) ((is_fall_of x.event x.reply i && nat_lt t (x.moment + 30)) || has_fallen_lately xs t i)
-              ((is_fall_of x.event x.reply i && nat_lt t (x.moment + 30)) || has_fallen_lately (part keep xs) t i) c)
-          (λ dropped. clash (keep xs x) k dropped))
+      (on ∙ if_true (is_online x.event) (Some x.number) (last_where (λ (y : Entry). is_online y.event) xs) c)) in
+      keeps_if (λ (l : List Entry). has_fallen_lately l t i) (keep xs x) x (part keep xs) (has_fallen_lately (x ∷ xs) t i)
+      (λ _. online_here (is_online x.event) ((is_fall_of x.event x.reply i && nat_lt t (x.moment + 30)) || has_fallen_lately xs t i)
+      ((is_fall_of x.event x.reply i && nat_lt t (x.moment + 30)) || has_fallen_lately (part keep xs) t i) c)
+      (λ dropped. clash (keep xs x) k dropped))
       (λ c. cases (is_fall_of x.event x.reply i)
       (λ r. let k = fall_kept x xs at (fall_needed all x x.event i r
-              (fell ∙ (if_false (is_online x.event) None (if is_fall_of x.event x.reply i then Some x.number else last_fall xs i) c
-              ∙ if_true (is_fall_of x.event x.reply i) (Some x.number) (last_fall xs i) r))) in
-          keeps_if (λ (l : List Entry). has_fallen_lately l t i) (keep xs x) x (part keep xs) (has_fallen_lately (x ∷ xs) t i)
-          (λ _. both_late (is_online x.event) (is_fall_of x.event x.reply i) (nat_lt t (x.moment + 30)) (has_fallen_lately xs t i) (has_fallen_lately (part keep xs) t i) c
-              (cases (nat_lt t (x.moment + 30))
-              (λ soon. inl (both (is_fall_of x.event x.reply i) (nat_lt t (x.moment + 30)) r soon))
-              (λ late. inr (old_falls t i x.moment xs rest late ∙ sym (old_falls t i x.moment (part keep xs) (moments_in_part keep x.moment x.moment xs rest (omega arith)) late)))))
-          (λ dropped. clash (keep xs x) k dropped))
+      (fell ∙ (if_false (is_online x.event) None (if is_fall_of x.event x.reply i then Some x.number else last_fall xs i) c
+      ∙ if_true (is_fall_of x.event x.reply i) (Some x.number) (last_fall xs i) r))) in
+      keeps_if (λ (l : List Entry). has_fallen_lately l t i) (keep xs x) x (part keep xs) (has_fallen_lately (x ∷ xs) t i)
+      (λ _. both_late (is_online x.event) (is_fall_of x.event x.reply i) (nat_lt t (x.moment + 30)) (has_fallen_lately xs t i) (has_fallen_lately (part keep xs) t i) c
+      (cases (nat_lt t (x.moment + 30))
+      (λ soon. inl (both (is_fall_of x.event x.reply i) (nat_lt t (x.moment + 30)) r soon))
+      (λ late. inr (old_falls t i x.moment xs rest late ∙ sym (old_falls t i x.moment (part keep xs) (moments_in_part keep x.moment x.moment xs rest (omega arith)) late)))))
+      (λ dropped. clash (keep xs x) k dropped))
       (λ r. let below = lately_while x.moment xs rest (λ e past h. within e past (inr h))
-              (on ∙ if_false (is_online x.event) (Some x.number) (last_where (λ (y : Entry). is_online y.event) xs) c)
-              (fell ∙ (if_false (is_online x.event) None (if is_fall_of x.event x.reply i then Some x.number else last_fall xs i) c
-              ∙ if_false (is_fall_of x.event x.reply i) (Some x.number) (last_fall xs i) r)) in
-          keeps_if (λ (l : List Entry). has_fallen_lately l t i) (keep xs x) x (part keep xs) (has_fallen_lately (x ∷ xs) t i)
-          (λ _. both_late (is_online x.event) (is_fall_of x.event x.reply i) (nat_lt t (x.moment + 30)) (has_fallen_lately xs t i) (has_fallen_lately (part keep xs) t i) c (inr below))
-          (λ _. skip (is_online x.event) (is_fall_of x.event x.reply i) (nat_lt t (x.moment + 30)) (has_fallen_lately xs t i) c r ∙ below)))
+      (on ∙ if_false (is_online x.event) (Some x.number) (last_where (λ (y : Entry). is_online y.event) xs) c)
+      (fell ∙ (if_false (is_online x.event) None (if is_fall_of x.event x.reply i then Some x.number else last_fall xs i) c
+      ∙ if_false (is_fall_of x.event x.reply i) (Some x.number) (last_fall xs i) r)) in
+      keeps_if (λ (l : List Entry). has_fallen_lately l t i) (keep xs x) x (part keep xs) (has_fallen_lately (x ∷ xs) t i)
+      (λ _. both_late (is_online x.event) (is_fall_of x.event x.reply i) (nat_lt t (x.moment + 30)) (has_fallen_lately xs t i) (has_fallen_lately (part keep xs) t i) c (inr below))
+      (λ _. skip (is_online x.event) (is_fall_of x.event x.reply i) (nat_lt t (x.moment + 30)) (has_fallen_lately xs t i) c r ∙ below)))
 
   pub lately_same : (m : ℕ) → moments_fall m all ≡ true → has_fallen_lately all t i ≡ has_fallen_lately (part keep all) t i
   lately_same m f = lately_while m all f (λ e past at. at) refl refl

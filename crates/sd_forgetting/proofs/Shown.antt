@@ -1,10 +1,10 @@
 -- What a reply names is the same entry in a journal and in what is kept of it, so a step gives the same.
-use Rattle.std.proofs.Common.{◌≡◌, ℕ, ◌+◌, ◌-◌, Bool, true, false, List, [], ◌∷◌, refl, sym, ap, ◌∙◌}
-use Rattle.std.specs.Prelude.{Option, Some, None, not, nat_lt, ◌==◌, ◌&&◌, ◌||◌, if◌then◌else◌}
+use Rattle.std.proofs.Common.{◌≡◌, ℕ, Bool, true, false, List, [], ◌∷◌, refl, sym, ap, ◌∙◌}
+use Rattle.std.specs.Prelude.{Option, Some, None, not, nat_lt, ◌==◌, ◌&&◌, if◌then◌else◌}
 use Rattle.sd_rules.specs.declared.keys.Key.{Key}
 use Rattle.sd_rules.specs.declared.keys.Key.TheVariants as keys
 use Rattle.sd_rules.specs.declared.records.Answered.{Answered}
-use Rattle.sd_rules.specs.declared.records.Answered.TheVariants.{Found, Absent}
+use Rattle.sd_rules.specs.declared.records.Answered.TheVariants.{Found}
 use Rattle.sd_rules.specs.declared.records.Record.{Record}
 use Rattle.sd_rules.specs.declared.records.Record.TheVariants as records
 use Rattle.sd_rules.specs.declared.events.Event.{Event}
@@ -23,11 +23,11 @@ use Rattle.sd_rules.specs.declared.replies.Reply.TheVariants as replies
 use Rattle.sd_rules.specs.Past.{Standing, key_of, newest, outage_at}
 use Rattle.sd_rules.specs.Requests.{is_open, is_open_request, is_open_attempt, open_for, waits_for, outcome_of}
 use Rattle.sd_rules.specs.Servers.{picked_server, was_picked}
-use Rattle.sd_rules.specs.Answers.{is_found, is_filtered, is_fresh, is_past_midpoint, is_renewable, reply_in_outage, reply_by_request, reply_unless_fresh, reply_if_fresh, reply_by_newest, reply_to_ask}
-use Rattle.sd_rules.specs.Logins.{Login, user_of, only_hashed, hash_entry, last_online_login, usable_hash, usable_login, cached_until, still_cached, cached_login, verdict_of, verdict_of_try}
-use Rattle.sd_rules.specs.Access.{Asker, user_groups, asker_of, granting_rule, reply_by_rule, reply_by_book, reply_by_rules, reply_by_lists, simple_allows, access_by}
+use Rattle.sd_rules.specs.Answers.{is_found, is_filtered, is_fresh, is_past_midpoint, is_renewable, reply_in_outage, reply_by_request, reply_unless_fresh, reply_if_fresh, reply_by_newest}
+use Rattle.sd_rules.specs.Logins.{Login, user_of, only_hashed, hash_entry, last_online_login, usable_hash, usable_login, cached_until, still_cached, cached_login}
+use Rattle.sd_rules.specs.Access.{Asker, user_groups, asker_of, granting_rule, reply_by_rule, reply_by_book, reply_by_rules, simple_allows, access_by}
 use Rattle.sd_rules.specs.Needed.{answer_of_outcome}
-use Rattle.sd_rules.specs.Steps.{event_at, record_in, hash_in, rule_in, answer_named_by_outcome, void_since, reply_by_void, reply_to_answer, reply_by_pick, outage_outcome, outcome_in_outage, reply_to_closing_outage, reply_to_outage, reply_to_collect, reply_to_leave, reply_by_cached, reply_to_login, reply_to_look, reply_to_try, reply_to, given_by}
+use Rattle.sd_rules.specs.Steps.{event_at, record_in, hash_in, rule_in, answer_named_by_outcome, void_since, reply_by_void, reply_to_answer, reply_by_pick, outage_outcome, outcome_in_outage, reply_to_outage, reply_to_collect, reply_to_leave, reply_by_cached, reply_to_login, reply_to_look, reply_to_try, reply_to, given_by}
 use Rattle.sd_forgetting.specs.Parts.{entry_at}
 use Rattle.sd_forgetting.specs.Kept.{IsKeptOf}
 use Rattle.sd_forgetting.proofs.Tests.{none_is_not, same_some}

@@ -1,6 +1,6 @@
 -- A step keeps what is kept of a journal so: the same entry on both.
-use Rattle.std.proofs.Common.{◌≡◌, ℕ, ◌<◌, ◌≤◌, ◌+◌, Bool, true, false, List, [], ◌∷◌, length, arith, refl, sym, ap, subst, ◌∙◌, inl, inr}
-use Rattle.std.specs.Prelude.{Option, Some, None, not, max, is_some, nat_lt, ◌≢◌, ◌⊎◌, ◌==◌, ◌&&◌, ◌||◌, if◌then◌else◌}
+use Rattle.std.proofs.Common.{◌≡◌, ℕ, ◌<◌, ◌≤◌, ◌+◌, Bool, true, false, List, [], ◌∷◌, arith, refl, sym, ap, subst, ◌∙◌, inl, inr}
+use Rattle.std.specs.Prelude.{Option, Some, None, is_some, nat_lt, ◌≢◌, ◌⊎◌, ◌==◌, ◌&&◌, ◌||◌, if◌then◌else◌}
 use Rattle.sd_rules.specs.declared.keys.Key.{Key}
 use Rattle.sd_rules.specs.declared.records.Answered.{Answered}
 use Rattle.sd_rules.specs.declared.records.Answered.TheVariants.{Found, Absent}
@@ -8,20 +8,19 @@ use Rattle.sd_rules.specs.declared.events.Event.{Event}
 use Rattle.sd_rules.specs.declared.events.Event.TheVariants as events
 use Rattle.sd_rules.specs.declared.replies.Entry.{Entry}
 use Rattle.sd_rules.specs.declared.replies.Outcome.{Outcome}
-use Rattle.sd_rules.specs.declared.replies.Outcome.TheVariants as outcomes
 use Rattle.sd_rules.specs.declared.replies.Reply.{Reply}
 use Rattle.sd_rules.specs.declared.replies.Reply.TheVariants as replies
-use Rattle.sd_rules.specs.Past.{Standing, or_else, is_closed, is_shut, voids, answer_in, spoken, newest, is_void_after}
-use Rattle.sd_rules.specs.Requests.{closes, unclosed, opens_request, opens_attempt, has_opened_request, has_opened_attempt, is_open, is_open_request, is_open_attempt, reserves, ends_waiting, joined, waits_for, answered_outcome, shut_outcome, outcome_by, outcome_of}
-use Rattle.sd_rules.specs.Servers.{is_noted, falls_under, has_fallen_under, is_online, is_fall_of, has_fallen_lately, is_pick_of, is_server, was_picked}
+use Rattle.sd_rules.specs.Past.{Standing, or_else, is_closed, voids, answer_in, spoken, newest, is_void_after}
+use Rattle.sd_rules.specs.Requests.{closes, unclosed, has_opened_request, has_opened_attempt, is_open, is_open_request, is_open_attempt, reserves, ends_waiting, joined, waits_for, shut_outcome, outcome_by, outcome_of}
+use Rattle.sd_rules.specs.Servers.{is_noted, falls_under, has_fallen_under, is_online, is_fall_of, is_pick_of, is_server, was_picked}
 use Rattle.sd_rules.specs.Logins.{Login, login_by, login_in, or_earlier, only_hashed, hash_entry, last_online_login, accepts, wrongs, wrong_count, last_wrong}
 use Rattle.sd_rules.specs.Needed.{last_where, is_stop, answer_of_outcome, read_with}
 use Rattle.sd_rules.specs.Steps.{asks_again, is_asking, void_since}
 use Rattle.sd_rules.specs.TextBytes.{bytes_of_event, text_bytes}
-use Rattle.sd_forgetting.specs.Parts.{part, entry_at, last_entry, IsAt, numbers_fall}
-use Rattle.sd_forgetting.specs.Orderly.{is_no_request, named_unless, named_by, is_ask, is_lead, entry_fits, entries_fit, is_answer, holds_answer, is_word}
+use Rattle.sd_forgetting.specs.Parts.{part, entry_at, IsAt, numbers_fall}
+use Rattle.sd_forgetting.specs.Orderly.{is_no_request, named_unless, named_by, entry_fits, entries_fit, is_answer, is_word}
 use Rattle.sd_forgetting.specs.Kept.{reserving, SameOpen, SameAnswers, SameTickets, SameLogins, SameEnds, IsKeptOf}
-use Rattle.sd_forgetting.proofs.Tests.{not_true, none_is_not, same_some, both, or_left, or_right, either, first_holds, second_holds, cases, clash, is_false, if_true, if_false, same_number, equal_numbers, is_equal, is_less, differ_above}
+use Rattle.sd_forgetting.proofs.Tests.{not_true, none_is_not, same_some, or_left, or_right, either, first_holds, second_holds, cases, clash, is_false, if_true, if_false, equal_numbers, is_equal, is_less, differ_above}
 use Rattle.sd_forgetting.proofs.Places.{key_kept, user_kept, numbers_below}
 use Rattle.sd_forgetting.proofs.Opens.{unclosed_at, request_some}
 use Rattle.sd_forgetting.proofs.Answers.{answer_kept, answer_number, spoken_some}
@@ -29,7 +28,7 @@ use Rattle.sd_forgetting.proofs.Logins.{login_kept, login_some, hashed_some}
 use Rattle.sd_forgetting.proofs.Guesses.{accepts_kept}
 use Rattle.sd_forgetting.proofs.Quiet.{reader_named}
 use Rattle.sd_forgetting.proofs.Whys.{about_below}
-use Rattle.sd_forgetting.proofs.Forgets.{open_both, reserving_kept, reserving_same}
+use Rattle.sd_forgetting.proofs.Forgets.{reserving_kept, reserving_same}
 use Rattle.sd_forgetting.proofs.Made.{IsMade, shut_answer}
 
 -- numbers that nothing has yet: no fall and no pick is about them
@@ -65,7 +64,7 @@ fresh_falls b n i (x ∷ xs) f g h =
     is_false (falls_under x.event x.reply n i || has_fallen_under xs n i)
     (λ t. either (falls_under x.event x.reply n i) (has_fallen_under xs n i) t
     (λ u. let below = about_below xs x n (first_holds (entry_fits xs x) (entries_fit xs) g) (falls_named x.event x.reply n i u) in
-        let wrong : ⊥ = absurd (omega arith) in wrong)
+    let wrong : ⊥ = absurd (omega arith) in wrong)
     (λ u. not_true (sym rest ∙ u)))
 
 fresh_picks : (b n i : ℕ) (xs : List Entry) → numbers_fall b xs ≡ true → entries_fit xs ≡ true → b ≤ n → was_picked xs n i ≡ false
@@ -78,7 +77,7 @@ fresh_picks b n i (x ∷ xs) f g h =
     (λ p. if_true (is_pick_of x.event n) (is_server x.reply i) (was_picked xs n i) p
     ∙ is_false (is_server x.reply i)
     (λ u. let below = about_below xs x n (first_holds (entry_fits xs x) (entries_fit xs) g) (pick_named x.event x.reply n i p u) in
-        let wrong : ⊥ = absurd (omega arith) in wrong))
+    let wrong : ⊥ = absurd (omega arith) in wrong))
     (λ p. if_false (is_pick_of x.event n) (is_server x.reply i) (was_picked xs n i) p ∙ rest)
 
 -- what is open after an entry, but for its own, was open before
@@ -194,7 +193,7 @@ module _ (w p : List Entry) (e : Entry) (k : IsKeptOf w p) (m : IsMade w e) (abo
       (reserving_kept (λ before (x : Entry). reserves w x.number) (reserves (e ∷ w)) w (λ x q at h. reserved_before w x.number (other_number w m.above x q at) h)
       ∙ (ap (part (λ before (x : Entry). reserves (e ∷ w) x.number)) k.opens.reserved
       ∙ (sym (reserving_kept (λ before (x : Entry). reserves p x.number) (reserves (e ∷ w)) p
-          (λ x q at h. reserved_before p x.number (other_number p above x q at) (sym (reserves_after x.number) ∙ h)))
+      (λ x q at h. reserved_before p x.number (other_number p above x q at) (sym (reserves_after x.number) ∙ h)))
       ∙ reserving_same (reserves (e ∷ w)) (reserves (e ∷ p)) reserves_after p)))
 
   entry_after : (n : ℕ) → entry_at w n ≡ entry_at p n → entry_at (e ∷ w) n ≡ entry_at (e ∷ p) n
@@ -211,7 +210,7 @@ module _ (w p : List Entry) (e : Entry) (k : IsKeptOf w p) (m : IsMade w e) (abo
       ap (λ (b : Bool). falls_under e.event e.reply n i || b)
       (cases (e.number == n)
       (λ is. let own = equal_numbers e.number n is in
-          fresh_falls e.number n i w m.above fits_w (omega arith) ∙ sym (fresh_falls e.number n i p above fits_p (omega arith)))
+      fresh_falls e.number n i w m.above fits_w (omega arith) ∙ sym (fresh_falls e.number n i p above fits_p (omega arith)))
       (λ other. k.opens.falls n i (open_before w n other h)))
 
   picks_after : (n i : ℕ) → is_open (e ∷ w) n ≡ true → was_picked (e ∷ w) n i ≡ was_picked (e ∷ p) n i
@@ -219,17 +218,17 @@ module _ (w p : List Entry) (e : Entry) (k : IsKeptOf w p) (m : IsMade w e) (abo
       ap (λ (b : Bool). if is_pick_of e.event n then is_server e.reply i else b)
       (cases (e.number == n)
       (λ is. let own = equal_numbers e.number n is in
-          fresh_picks e.number n i w m.above fits_w (omega arith) ∙ sym (fresh_picks e.number n i p above fits_p (omega arith)))
+      fresh_picks e.number n i w m.above fits_w (omega arith) ∙ sym (fresh_picks e.number n i p above fits_p (omega arith)))
       (λ other. k.opens.picks n i (open_before w n other h)))
 
   voids_after : (n : ℕ) (own : Key) (answered : Answered) → is_open_request (e ∷ w) n ≡ true → void_since (e ∷ w) n own answered ≡ void_since (e ∷ p) n own answered
   voids_after n own answered h =
       cases (is_asking e n)
       (λ is. ap (λ (y : Option ℕ). if voids e.event own answered then Some e.number else y)
-          (if_true (is_asking e n) None (void_since w n own answered) is ∙ sym (if_true (is_asking e n) None (void_since p n own answered) is)))
+      (if_true (is_asking e n) None (void_since w n own answered) is ∙ sym (if_true (is_asking e n) None (void_since p n own answered) is)))
       (λ not_asking. ap (λ (y : Option ℕ). if voids e.event own answered then Some e.number else if is_asking e n then None else y)
-          (k.opens.voids n own answered (request_rest (closes e.event e.reply n) (e.number == n) e (unclosed w n)
-          (is_false (e.number == n) (λ is. not_true (sym not_asking ∙ or_left (e.number == n) (asks_again e.event e.reply n) is))) h)))
+      (k.opens.voids n own answered (request_rest (closes e.event e.reply n) (e.number == n) e (unclosed w n)
+      (is_false (e.number == n) (λ is. not_true (sym not_asking ∙ or_left (e.number == n) (asks_again e.event e.reply n) is))) h)))
 
   opens_after : SameOpen (e ∷ w) (e ∷ p)
   opens_after = record {
@@ -256,17 +255,17 @@ module _ (w p : List Entry) (e : Entry) (k : IsKeptOf w p) (m : IsMade w e) (abo
   -- the newest answer is this entry's, or was the newest before
   newest_before : (key : Key) (a : Standing) → newest (e ∷ w) key ≡ Some a → (a.number ≡ e.number) ⊎ (newest w key ≡ Some a)
   newest_before key a h = elim (else_some (spoken key (answer_in w e)) (newest w key) a h) [
-      | inl s ↦ inl (answer_number w e e.event a (spoken_some key (answer_in w e) a s).0)
-      | inr s ↦ inr s
-    ]
+    | inl s ↦ inl (answer_number w e e.event a (spoken_some key (answer_in w e) a s).0)
+    | inr s ↦ inr s
+  ]
 
   voided_after : (key : Key) (a : Standing) → newest (e ∷ w) key ≡ Some a → is_void_after (e ∷ w) a ≡ is_void_after (e ∷ p) a
   voided_after key a h = elim (newest_before key a h) [
-      | inl own ↦ (let is = is_equal e.number a.number (sym own) in
-          if_true (e.number == a.number) false (voids e.event a.own a.answered || is_void_after w a) is
-          ∙ sym (if_true (e.number == a.number) false (voids e.event a.own a.answered || is_void_after p a) is))
-      | inr old ↦ after_same (e.number == a.number) (voids e.event a.own a.answered) (is_void_after w a) (is_void_after p a) (k.answers.voided key a old)
-    ]
+    | inl own ↦ (let is = is_equal e.number a.number (sym own) in
+        if_true (e.number == a.number) false (voids e.event a.own a.answered || is_void_after w a) is
+        ∙ sym (if_true (e.number == a.number) false (voids e.event a.own a.answered || is_void_after p a) is))
+    | inr old ↦ after_same (e.number == a.number) (voids e.event a.own a.answered) (is_void_after w a) (is_void_after p a) (k.answers.voided key a old)
+  ]
 
   own_entry : (n : ℕ) → n ≡ e.number → entry_at (e ∷ w) n ≡ entry_at (e ∷ p) n
   own_entry n own = (let is = is_equal e.number n (sym own) in
@@ -277,9 +276,9 @@ module _ (w p : List Entry) (e : Entry) (k : IsKeptOf w p) (m : IsMade w e) (abo
     is_newest = newest_after;
     voided = voided_after;
     entries = λ key a h. elim (newest_before key a h) [
-        | inl own ↦ own_entry a.number own
-        | inr old ↦ entry_after a.number (k.answers.entries key a old)
-      ];
+      | inl own ↦ own_entry a.number own
+      | inr old ↦ entry_after a.number (k.answers.entries key a old)
+    ];
   }
 
   waits_before : (t r : ℕ) → waits_for (e ∷ w) t ≡ Some r → (joined e.reply ≡ Some r) ⊎ (waits_for w t ≡ Some r)
@@ -310,9 +309,9 @@ module _ (w p : List Entry) (e : Entry) (k : IsKeptOf w p) (m : IsMade w e) (abo
   -- so its ticket waited before
   waited_before : (t r : ℕ) → closes e.event e.reply r ≡ false → waits_for (e ∷ w) t ≡ Some r → is_open_request (e ∷ w) r ≡ false → waits_for w t ≡ Some r
   waited_before t r c h closed = elim (waits_before t r h) [
-      | inl j ↦ clash (is_open_request w r) (m.joins r j).0 (closed_before r c closed)
-      | inr o ↦ o
-    ]
+    | inl j ↦ clash (is_open_request w r) (m.joins r j).0 (closed_before r c closed)
+    | inr o ↦ o
+  ]
 
   outcomes_after : (t r : ℕ) → waits_for (e ∷ w) t ≡ Some r → is_open_request (e ∷ w) r ≡ false → outcome_of (e ∷ w) r ≡ outcome_of (e ∷ p) r
   outcomes_after t r h closed =
@@ -327,7 +326,7 @@ module _ (w p : List Entry) (e : Entry) (k : IsKeptOf w p) (m : IsMade w e) (abo
   named_after t r n h closed names =
       cases (closes e.event e.reply r)
       (λ c. elim (outcome_kind e.number e.event e.reply r n c
-          (sym (ap answer_of_outcome (if_true (closes e.event e.reply r) (outcome_by e.number e.event e.reply) (outcome_of w r) c)) ∙ names)) [
+      (sym (ap answer_of_outcome (if_true (closes e.event e.reply r) (outcome_by e.number e.event e.reply) (outcome_of w r) c)) ∙ names)) [
         | inl own ↦ own_entry n own.0
         | inr shut ↦ (let s = m.shuts n shut in
             entry_after n (ap (entry_at w) (sym s.1.1.1) ∙ (k.answers.entries s.0 s.1.0 s.1.1.0 ∙ ap (entry_at p) s.1.1.1)))
@@ -358,15 +357,15 @@ module _ (w p : List Entry) (e : Entry) (k : IsKeptOf w p) (m : IsMade w e) (abo
     hashes = λ user. ap (λ (o : Option Bool). or_earlier (only_hashed (login_in e o)) (hash_entry w user)) (login_after user)
         ∙ ap (or_earlier (only_hashed (login_in e (login_by p user e.event e.reply)))) (k.logins.hashes user);
     hashed = λ user l h. elim (earlier_some (only_hashed (login_in e (login_by w user e.event e.reply))) (hash_entry w user) l h) [
-        | inl own ↦ own_entry l.number (login_some e (login_by w user e.event e.reply) l (hashed_some (login_in e (login_by w user e.event e.reply)) l own)).1.1
-        | inr old ↦ entry_after l.number (k.logins.hashed user l old)
-      ];
+      | inl own ↦ own_entry l.number (login_some e (login_by w user e.event e.reply) l (hashed_some (login_in e (login_by w user e.event e.reply)) l own)).1.1
+      | inr old ↦ entry_after l.number (k.logins.hashed user l old)
+    ];
     logins = λ user. ap (λ (o : Option Bool). or_earlier (login_in e o) (last_online_login w user)) (login_after user)
         ∙ ap (or_earlier (login_in e (login_by p user e.event e.reply))) (k.logins.logins user);
     online = λ user l h. elim (earlier_some (login_in e (login_by w user e.event e.reply)) (last_online_login w user) l h) [
-        | inl own ↦ own_entry l.number (login_some e (login_by w user e.event e.reply) l own).1.1
-        | inr old ↦ entry_after l.number (k.logins.online user l old)
-      ];
+      | inl own ↦ own_entry l.number (login_some e (login_by w user e.event e.reply) l own).1.1
+      | inr old ↦ entry_after l.number (k.logins.online user l old)
+    ];
     wrongs = λ user. count_alike (accepts w user e.event e.reply) (accepts p user e.event e.reply) (wrongs user e.event e.reply) (wrong_count w user) (wrong_count p user)
         (accepts_after user) (k.logins.wrongs user);
     last_wrongs = last_after;

@@ -1,14 +1,14 @@
 -- Tickets that wait, and what they will take, are the same in a part that keeps what they look at.
-use Rattle.std.proofs.Common.{◌≡◌, ℕ, ◌<◌, Bool, true, false, List, [], ◌∷◌, arith, refl, sym, ap, subst, ◌∙◌, inl, inr}
-use Rattle.std.specs.Prelude.{Option, Some, None, is_some, nat_lt, ◌⊎◌, ◌==◌, ◌&&◌, ◌||◌, if◌then◌else◌}
+use Rattle.std.proofs.Common.{◌≡◌, ℕ, Bool, true, false, List, [], ◌∷◌, refl, sym, ap, ◌∙◌, inl, inr}
+use Rattle.std.specs.Prelude.{Option, Some, None, is_some, ◌==◌, if◌then◌else◌}
 use Rattle.sd_rules.specs.declared.replies.Entry.{Entry}
 use Rattle.sd_rules.specs.declared.replies.Outcome.{Outcome}
 use Rattle.sd_rules.specs.declared.replies.Outcome.TheVariants as outcomes
 use Rattle.sd_rules.specs.Past.{or_else}
 use Rattle.sd_rules.specs.Requests.{closes, ends_waiting, joined, waits_for, outcome_by, outcome_of}
-use Rattle.sd_rules.specs.Needed.{last_where, is_number, closing_of, answer_of_outcome, serves_ticket, serves_waiting}
-use Rattle.sd_forgetting.specs.Parts.{part, entry_at, last_entry, IsAt, numbers_fall}
-use Rattle.sd_forgetting.proofs.Tests.{not_true, none_is_not, same_some, or_left, or_right, cases, clash, equal_numbers, is_equal, same_number}
+use Rattle.sd_rules.specs.Needed.{is_number, closing_of, answer_of_outcome, serves_ticket, serves_waiting}
+use Rattle.sd_forgetting.specs.Parts.{part, entry_at, last_entry, IsAt}
+use Rattle.sd_forgetting.proofs.Tests.{not_true, none_is_not, or_left, or_right, cases, clash, equal_numbers, is_equal, same_number}
 use Rattle.sd_forgetting.proofs.Places.{part_law, entry_kept, was_kept}
 use Rattle.sd_forgetting.proofs.Lasts.{number_in, where_is_entry, last_same}
 
@@ -40,10 +40,15 @@ waiter_at (x ∷ xs) t r h =
     cases (ends_waiting x.event x.reply t)
     (λ c. absurd (none_is_not r (sym (at_end (ends_waiting x.event x.reply t) (joined x.reply) (x.number == t) (waits_for xs t) c) ∙ h)))
     (λ c. cases (x.number == t)
-    (λ is. record { entry = x; past = xs; at = inl (refl, refl); number = equal_numbers x.number t is;
-        joins = sym (at_join (ends_waiting x.event x.reply t) (joined x.reply) (x.number == t) (waits_for xs t) c is) ∙ h })
+    (λ is. record {
+      entry = x;
+      past = xs;
+      at = inl (refl, refl);
+      number = equal_numbers x.number t is;
+      joins = sym (at_join (ends_waiting x.event x.reply t) (joined x.reply) (x.number == t) (waits_for xs t) c is) ∙ h;
+    })
     (λ no. let w = waiter_at xs t r (sym (past_others (ends_waiting x.event x.reply t) (joined x.reply) (x.number == t) (waits_for xs t) c no) ∙ h) in
-        record { entry = w.entry; past = w.past; at = inr w.at; number = w.number; joins = w.joins }))
+    record { entry = w.entry; past = w.past; at = inr w.at; number = w.number; joins = w.joins }))
 
 waiting_stays : (keep : List Entry → Entry → Bool) (t r : ℕ) (xs : List Entry) → ((e : Entry) (past : List Entry) → IsAt xs e past → e.number ≡ t → keep past e ≡ true) →
     waits_for xs t ≡ Some r → waits_for (part keep xs) t ≡ Some r
@@ -53,14 +58,14 @@ waiting_stays keep t r (x ∷ xs) k h =
     (λ c. absurd (none_is_not r (sym (at_end (ends_waiting x.event x.reply t) (joined x.reply) (x.number == t) (waits_for xs t) c) ∙ h)))
     (λ c. cases (x.number == t)
     (λ is. part_law (λ (l : List Entry). waits_for l t ≡ Some r) (keep xs x) x (part keep xs)
-        (λ _. at_join (ends_waiting x.event x.reply t) (joined x.reply) (x.number == t) (waits_for (part keep xs) t) c is
-            ∙ (sym (at_join (ends_waiting x.event x.reply t) (joined x.reply) (x.number == t) (waits_for xs t) c is) ∙ h))
-        (λ dropped. clash (keep xs x) (k x xs (inl (refl, refl)) (equal_numbers x.number t is)) dropped))
+    (λ _. at_join (ends_waiting x.event x.reply t) (joined x.reply) (x.number == t) (waits_for (part keep xs) t) c is
+    ∙ (sym (at_join (ends_waiting x.event x.reply t) (joined x.reply) (x.number == t) (waits_for xs t) c is) ∙ h))
+    (λ dropped. clash (keep xs x) (k x xs (inl (refl, refl)) (equal_numbers x.number t is)) dropped))
     (λ no. let rest = waiting_stays keep t r xs (λ e past at. k e past (inr at))
-            (sym (past_others (ends_waiting x.event x.reply t) (joined x.reply) (x.number == t) (waits_for xs t) c no) ∙ h) in
-        part_law (λ (l : List Entry). waits_for l t ≡ Some r) (keep xs x) x (part keep xs)
-        (λ _. past_others (ends_waiting x.event x.reply t) (joined x.reply) (x.number == t) (waits_for (part keep xs) t) c no ∙ rest)
-        (λ _. rest)))
+    (sym (past_others (ends_waiting x.event x.reply t) (joined x.reply) (x.number == t) (waits_for xs t) c no) ∙ h) in
+    part_law (λ (l : List Entry). waits_for l t ≡ Some r) (keep xs x) x (part keep xs)
+    (λ _. past_others (ends_waiting x.event x.reply t) (joined x.reply) (x.number == t) (waits_for (part keep xs) t) c no ∙ rest)
+    (λ _. rest)))
 
 same_option : (x y : Option ℕ) → ((r : ℕ) → x ≡ Some r → y ≡ Some r) → ((r : ℕ) → y ≡ Some r → is_some x ≡ true) → x ≡ y
 same_option (Some r) y f g = sym (f r refl)
@@ -106,8 +111,8 @@ module _
       same_option (waits_for all t) (waits_for (part keep all) t)
       (λ r w. waiting_stays keep t r all (waiting_number t r w) w)
       (λ r w. let x = waiter_at (part keep all) t r w in
-          let k = was_kept keep all x.entry x.past x.at in
-          ap (λ (n : ℕ). is_some (waits_for all n)) (sym x.number) ∙ why x.entry k.past k.at k.kept (ap is_some x.joins))
+      let k = was_kept keep all x.entry x.past x.at in
+      ap (λ (n : ℕ). is_some (waits_for all n)) (sym x.number) ∙ why x.entry k.past k.at k.kept (ap is_some x.joins))
 
   pub joins_same : (t r : ℕ) → waits_for all t ≡ Some r → entry_at all t ≡ entry_at (part keep all) t
   joins_same t r w = entry_kept keep t all (waiting_number t r w)
@@ -118,8 +123,8 @@ module _
         outcome_is_from r all
         ∙ (ap (outcome_from r) (last_same keep (λ (e : Entry). closes e.event e.reply r) all
         (λ e past at c is. served_kept e past at (serving all e.number t r w
-            (or_left (is_number e.number (closing_of all r)) (is_number e.number (answer_of_outcome (outcome_of all r)))
-            (ap (is_number e.number) (where_is_entry (λ (x : Entry). closes x.event x.reply r) all ∙ ap number_in is) ∙ same_number e.number)))))
+        (or_left (is_number e.number (closing_of all r)) (is_number e.number (answer_of_outcome (outcome_of all r)))
+        (ap (is_number e.number) (where_is_entry (λ (x : Entry). closes x.event x.reply r) all ∙ ap number_in is) ∙ same_number e.number)))))
         ∙ sym (outcome_is_from r (part keep all)))
 
     pub named_same : (n : ℕ) → answer_of_outcome (outcome_of all r) ≡ Some n → entry_at all n ≡ entry_at (part keep all) n

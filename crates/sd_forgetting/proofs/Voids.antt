@@ -1,25 +1,24 @@
 -- Invalidations that cover the newest answers, or stand after the asking of an open request, are seen alike in a part that keeps them.
-use Rattle.std.proofs.Common.{◌≡◌, ℕ, ◌<◌, Bool, true, false, List, [], ◌∷◌, arith, refl, sym, ap, subst, ◌∙◌, inl, inr}
-use Rattle.std.specs.Prelude.{Option, Some, None, nat_lt, ◌⊎◌, ◌==◌, ◌&&◌, ◌||◌, if◌then◌else◌}
+use Rattle.std.proofs.Common.{◌≡◌, ℕ, ◌<◌, Bool, true, false, List, [], ◌∷◌, refl, sym, ap, subst, ◌∙◌, inl, inr}
+use Rattle.std.specs.Prelude.{Option, Some, None, ◌==◌, ◌&&◌, ◌||◌, if◌then◌else◌}
 use Rattle.sd_rules.specs.declared.keys.Key.{Key}
 use Rattle.sd_rules.specs.declared.keys.What.{What}
 use Rattle.sd_rules.specs.declared.records.Answered.{Answered}
 use Rattle.sd_rules.specs.declared.events.Event.{Event}
 use Rattle.sd_rules.specs.declared.events.Event.TheVariants as events
-use Rattle.sd_rules.specs.declared.events.Row.TheVariants as rows
 use Rattle.sd_rules.specs.declared.replies.Entry.{Entry}
 use Rattle.sd_rules.specs.declared.replies.Reply.{Reply}
 use Rattle.sd_rules.specs.Keys.{covers}
 use Rattle.sd_rules.specs.Past.{Standing, or_else, voids, newest, answer_by, answer_in, is_void_after}
 use Rattle.sd_rules.specs.Requests.{opens_request, has_opened_request, is_open, is_open_request, is_open_attempt, unclosed}
 use Rattle.sd_rules.specs.Steps.{asks_again, is_asking, is_again, void_since}
-use Rattle.sd_rules.specs.Needed.{last_where, is_number, is_newest_answer, is_last_void, is_covered, covers_newest, is_asked_by, is_asked_before, is_after_asking, is_void_needed, serves_open, is_last_again}
+use Rattle.sd_rules.specs.Needed.{last_where, is_newest_answer, is_last_void, is_covered, covers_newest, is_asked_by, is_asked_before, is_after_asking, is_void_needed, serves_open, is_last_again}
 use Rattle.sd_forgetting.specs.Parts.{part, IsAt, numbers_fall}
-use Rattle.sd_forgetting.proofs.Tests.{not_true, none_is_not, same_some, both, or_left, or_right, either, first_holds, cases, clash, equal_numbers, is_equal, less, same_number}
+use Rattle.sd_forgetting.proofs.Tests.{not_true, none_is_not, both, or_left, or_right, either, first_holds, equal_numbers, is_equal, less}
 use Rattle.sd_forgetting.proofs.Places.{older_before, one_of_number, was_kept}
 use Rattle.sd_forgetting.proofs.Opens.{request_some, unclosed_at}
 use Rattle.sd_forgetting.proofs.Answers.{newest_at, newest_looked}
-use Rattle.sd_forgetting.proofs.Marks.{Mark, mark_by, mark_in, mark_of, covers_marked, number_marked, number_if, last_at, last_some, last_marked, is_last_by, stop_below, marks_same}
+use Rattle.sd_forgetting.proofs.Marks.{Mark, mark_by, mark_in, mark_of, covers_marked, number_marked, last_at, last_some, last_marked, is_last_by, stop_below, marks_same}
 
 -- an answer is no invalidation
 answer_no_void : (past : List Entry) (e : Entry) (event : Event) (a : Standing) (own : Key) (answered : Answered) → answer_by past e event ≡ Some a → voids event own answered ≡ false
@@ -107,7 +106,7 @@ module _
     void_kept e past what at ev c h l =
         let n = newest_at all k a is in
         let below = stop_below a.own a.answered (λ (x : Entry). x.number == a.number) b n.entry n.past (record { number = e.number; covering = true }) all falls n.at
-            (is_equal n.entry.number a.number (sym n.number)) (no_void n.entry n.past n.at (sym n.number)) refl h in
+        (is_equal n.entry.number a.number (sym n.number)) (no_void n.entry n.past n.at (sym n.number)) refl h in
         let there = older_before b all e past n.entry n.past falls at n.at below in
         looked_kept e past at (void_looked e past at
         (void_needed all past e what e.event ev l
@@ -159,7 +158,7 @@ module _
     asked_by n (Some m) is h =
         let l = last_at (λ (x : Entry). is_asking x r) all m is in
         let below = stop_below own answered (λ (x : Entry). is_asking x r) b l.entry l.past (record { number = n; covering = true }) all falls l.at l.meets
-            (asking_no_void l.entry l.past l.at l.meets) refl h in
+        (asking_no_void l.entry l.past l.at l.meets) refl h in
         less m n (subst (λ (k : ℕ). k < n) l.number below)
 
     since_kept : (e : Entry) (past : List Entry) (what : What) → IsAt all e past → e.event ≡ events.Void what → covers what own answered ≡ true →
@@ -168,7 +167,7 @@ module _
         let v = request_some (unclosed all r) o in
         let u = unclosed_at all r v.0 v.1 in
         let there = asking_there all e.number all v.0 u.past u.at (ap (is_open_request all) u.number ∙ o)
-            (ap (λ (n : ℕ). is_asked_before all n e.number) u.number ∙ asked_by e.number (last_where (λ (x : Entry). is_asking x r) all) refl h) in
+        (ap (λ (n : ℕ). is_asked_before all n e.number) u.number ∙ asked_by e.number (last_where (λ (x : Entry). is_asking x r) all) refl h) in
         looked_kept e past at (void_looked e past at
         (void_needed all past e what e.event ev l (or_right (covers_newest all what past) (is_after_asking all e.number all) there)))
 
@@ -182,8 +181,10 @@ module _
         (again_serves all e e.event e.reply r again open_either
         (is_last_by (λ (x : Entry). asks_again x.event x.reply r) all e again
         (last_marked own answered (λ (x : Entry). is_asking x r) (λ (x : Entry). asks_again x.event x.reply r)
-        (λ x t. (record { number = x.number; covering = false },
-            again_marks x t))
+        (λ x t. (
+          record { number = x.number; covering = false },
+          again_marks x t,
+        ))
         b e past (record { number = e.number; covering = false }) all falls at again refl is)))))
       where
         again_marks : (x : Entry) → asks_again x.event x.reply r ≡ true → mark_in own answered (λ (y : Entry). is_asking y r) x ≡ Some (record { number = x.number; covering = false })

@@ -1,8 +1,6 @@
 -- What is kept of a journal: of the journal itself, and through what is kept of another.
-use Rattle.std.proofs.Common.{◌≡◌, ℕ, ◌≤◌, Bool, true, false, List, [], ◌∷◌, length, arith, refl, sym, ap, ◌∙◌}
-use Rattle.std.specs.Prelude.{Option, Some, None, ◌≢◌}
+use Rattle.std.proofs.Common.{◌≡◌, ℕ, ◌≤◌, List, length, arith, refl, sym, ap, ◌∙◌}
 use Rattle.sd_rules.specs.declared.replies.Entry.{Entry}
-use Rattle.sd_rules.specs.declared.replies.Outcome.{Outcome}
 use Rattle.sd_rules.specs.Requests.{is_open}
 use Rattle.sd_rules.specs.Needed.{answer_of_outcome}
 use Rattle.sd_rules.specs.TextBytes.{text_bytes}

@@ -1,27 +1,23 @@
 -- Why a leading entry, a question that joined, or a wrong guess is kept by a forget.
 use Rattle.std.proofs.Common.{◌≡◌, ℕ, ◌<◌, Bool, true, false, List, [], ◌∷◌, arith, refl, sym, ap, subst, ◌∙◌, inl, inr}
 use Rattle.std.specs.Prelude.{Option, Some, None, not, is_some, nat_lt, ◌⊎◌, ◌==◌, ◌&&◌, ◌||◌, if◌then◌else◌}
-use Rattle.sd_rules.specs.declared.events.Event.{Event}
 use Rattle.sd_rules.specs.declared.replies.Entry.{Entry}
-use Rattle.sd_rules.specs.declared.replies.Outcome.{Outcome}
-use Rattle.sd_rules.specs.declared.replies.Outcome.TheVariants as outcomes
 use Rattle.sd_rules.specs.Past.{or_else, records_outage, ends_outage}
-use Rattle.sd_rules.specs.Requests.{closes, opens_request, opens_attempt, has_opened_request, has_opened_attempt, unclosed, is_open, is_open_request, joined, waits_for, ends_waiting, outcome_by, outcome_of}
+use Rattle.sd_rules.specs.Requests.{closes, has_opened_request, has_opened_attempt, unclosed, is_open, is_open_request, joined, waits_for, ends_waiting, outcome_of}
 use Rattle.sd_rules.specs.Servers.{is_online}
 use Rattle.sd_rules.specs.Steps.{asks_again}
 use Rattle.sd_rules.specs.Logins.{accepts, wrongs}
-use Rattle.sd_rules.specs.Needed.{is_number, last_where, is_last_where, is_newest_of_some, is_newest_answer, is_void_needed, serves_open, is_fall_needed, is_last_online, last_outage, closing_of, answer_of_outcome, serves_ticket, serves_waiting, is_login_needed, user_logged_in, is_since_accepted, is_wrong_needed, user_guessed, is_stop, is_last_stop, is_last, is_looked_at, is_answer_to, is_last_again, is_read_for, is_read_with, read_with, is_needed}
-use Rattle.sd_forgetting.specs.Parts.{entry_at, last_entry, IsAt, numbers_fall}
-use Rattle.sd_forgetting.specs.Orderly.{is_below, are_leads, names_leads, named_by, is_ask, is_lead, entry_fits, entries_fit, is_answer, holds_answer, is_word, last_word, closed_or_open, head_is_open, IsOrderly}
-use Rattle.sd_forgetting.proofs.Tests.{not_true, none_is_not, same_some, both, or_left, or_right, either, first_holds, second_holds, cases, clash, is_false, if_true, if_false, same_number, equal_numbers, is_equal, is_less}
-use Rattle.sd_forgetting.proofs.Places.{found_at, at_is_entry, one_of_number, numbers_below, older_before}
+use Rattle.sd_rules.specs.Needed.{is_number, last_where, is_newest_of_some, serves_open, last_outage, closing_of, answer_of_outcome, serves_ticket, serves_waiting, is_login_needed, is_since_accepted, is_wrong_needed, user_guessed, is_stop, is_last, is_looked_at, is_answer_to, is_last_again, is_read_for, is_read_with, read_with, is_needed}
+use Rattle.sd_forgetting.specs.Parts.{last_entry, IsAt, numbers_fall}
+use Rattle.sd_forgetting.specs.Orderly.{is_below, leads_or_other, are_leads, names_leads, named_by, is_ask, is_lead, entry_fits, entries_fit, holds_answer, is_word, last_word, closed_or_open, head_is_open, IsOrderly}
+use Rattle.sd_forgetting.proofs.Tests.{not_true, none_is_not, same_some, both, or_left, or_right, either, first_holds, second_holds, cases, is_false, if_true, if_false, same_number, equal_numbers, is_equal, is_less}
+use Rattle.sd_forgetting.proofs.Places.{at_is_entry, one_of_number, numbers_below, older_before}
 use Rattle.sd_forgetting.proofs.Opens.{Closer, opened_some, unclosed_at, closed_by}
 use Rattle.sd_forgetting.proofs.Marks.{last_at}
-use Rattle.sd_forgetting.proofs.Lasts.{number_in, where_is_entry}
 use Rattle.sd_forgetting.proofs.Tickets.{waiter_at, outcome_from, outcome_is_from}
 use Rattle.sd_forgetting.proofs.Guesses.{accepted_counts_none, whose_guess}
 use Rattle.sd_forgetting.proofs.Reasons.{looked_why}
-use Rattle.sd_forgetting.proofs.Quiet.{is_quiet, quiet_answers, quiet_voids, quiet_falls, quiet_online, quiet_stop, quiet_records, quiet_logs_in, quiet_holds, lead_joins, lead_quiet, lead_serves, lead_closes, lead_guesses, lead_again, ask_quiet, ask_serves, ask_closes, ask_guesses, ask_again, ask_ends, is_guess, wrong_guess, guess_quiet, guess_serves, guess_closes, guess_leads, guess_asks, guess_again, reader_quiet, reader_leads, reader_asks, reader_guesses, reader_serves, closes_named, reader_named, reader_closes}
+use Rattle.sd_forgetting.proofs.Quiet.{is_quiet, quiet_answers, quiet_voids, quiet_falls, quiet_online, quiet_stop, quiet_records, quiet_logs_in, quiet_holds, lead_joins, lead_quiet, lead_serves, lead_closes, lead_guesses, lead_again, ask_quiet, ask_serves, ask_closes, ask_guesses, ask_again, ask_ends, wrong_guess, guess_quiet, guess_serves, guess_closes, guess_leads, guess_asks, guess_again, reader_quiet, reader_leads, reader_asks, reader_guesses, reader_serves, closes_named, reader_named, reader_closes}
 
 -- what an entry of an orderly journal is about
 pub fits_at : (xs : List Entry) (e : Entry) (past : List Entry) → entries_fit xs ≡ true → IsAt xs e past → entry_fits past e ≡ true
@@ -67,12 +63,22 @@ lead_if : (s l : Bool) → (not s || l) ≡ true → s ≡ true → l ≡ true
 lead_if true l f h = f
 lead_if false l f h = absurd (not_true h)
 
+is_not : (b : Bool) → not b ≡ true → b ≡ false
+is_not true h = absurd (not_true h)
+is_not false h = refl
+
+fits_among : (n : ℕ) (xs : List Entry) (e : Entry) (q : List Entry) → are_leads n xs ≡ true → IsAt xs e q → leads_or_other n e ≡ true
+fits_among n [] e q f h = absurd h
+fits_among n (x ∷ xs) e q f (inl p) = ap (leads_or_other n) (sym p.0) ∙ first_holds (leads_or_other n x) (are_leads n xs) f
+fits_among n (x ∷ xs) e q f (inr p) = fits_among n xs e q (second_holds (leads_or_other n x) (are_leads n xs) f) p
+
 pub lead_among : (n : ℕ) (xs : List Entry) (e : Entry) (q : List Entry) → are_leads n xs ≡ true → IsAt xs e q → e.number ≡ n → is_lead e ≡ true
-lead_among n [] e q f h is = absurd h
-lead_among n (x ∷ xs) e q f (inl p) is =
-    ap is_lead (sym p.0) ∙ lead_if (x.number == n) (is_lead x) (first_holds (not (x.number == n) || is_lead x) (are_leads n xs) f)
-    (is_equal x.number n (ap (λ (z : Entry). z.number) p.0 ∙ is))
-lead_among n (x ∷ xs) e q f (inr p) is = lead_among n xs e q (second_holds (not (x.number == n) || is_lead x) (are_leads n xs) f) p is
+lead_among n xs e q f h is =
+    lead_if (e.number == n) (is_lead e) (first_holds (not (e.number == n) || is_lead e) (not (closes e.event e.reply n)) (fits_among n xs e q f h)) (is_equal e.number n is)
+
+pub unclosed_among : (n : ℕ) (xs : List Entry) (e : Entry) (q : List Entry) → are_leads n xs ≡ true → IsAt xs e q → closes e.event e.reply n ≡ false
+unclosed_among n xs e q f h =
+    is_not (closes e.event e.reply n) (second_holds (not (e.number == n) || is_lead e) (not (closes e.event e.reply n)) (fits_among n xs e q f h))
 
 -- the last entry that meets a test stands in the journal
 pub record EntryAt (test : Entry → Bool) (xs : List Entry) (x : Entry) : Type 0 where
@@ -244,7 +250,7 @@ module _ (next : ℕ) (all : List Entry) (o : IsOrderly next all) where
           (let l = last_entry_at is_word all x is in
           cases (records_outage x.event x.reply)
           (λ r. let number = same_some x.number e.number (sym (if_true (records_outage x.event x.reply) (Some x.number) None r) ∙ g) in
-              not_true (sym (quiet_records e.event e.reply quiet) ∙ (ap (λ (z : Entry). records_outage z.event z.reply) (same_entry e past x l.past at l.at (sym number)) ∙ r)))
+          not_true (sym (quiet_records e.event e.reply quiet) ∙ (ap (λ (z : Entry). records_outage z.event z.reply) (same_entry e past x l.past at l.at (sym number)) ∙ r)))
           (λ r. none_is_not e.number (sym (if_false (records_outage x.event x.reply) (Some x.number) None r) ∙ g)))
 
       not_outage : is_number e.number (last_outage all) ≡ true → ⊥
@@ -255,10 +261,10 @@ module _ (next : ℕ) (all : List Entry) (o : IsOrderly next all) where
           let k = looker_of all e.number all g in
           either (is_number e.number (closing_of all k.request)) (is_number e.number (answer_of_outcome (outcome_of all k.request))) k.looks
           (λ c. let l = last_at (λ (x : Entry). closes x.event x.reply k.request) all e.number (numbered e.number (closing_of all k.request) c) in
-              closing k.request (ap (λ (z : Entry). closes z.event z.reply k.request) (same_entry e past l.entry l.past at l.at (sym l.number)) ∙ l.meets))
+          closing k.request (ap (λ (z : Entry). closes z.event z.reply k.request) (same_entry e past l.entry l.past at l.at (sym l.number)) ∙ l.meets))
           (λ a. let n = numbered e.number (answer_of_outcome (outcome_of all k.request)) a in
-              let holds = o.named k.ticket k.request e.number k.waits (named_closed k.request e.number n) n in
-              absurd (not_true (sym (quiet_holds e.event e.reply quiet) ∙ (sym (ap holds_answer (at_is_entry next all e past o.numbers at)) ∙ holds))))
+          let holds = o.named k.ticket k.request e.number k.waits (named_closed k.request e.number n) n in
+          absurd (not_true (sym (quiet_holds e.event e.reply quiet) ∙ (sym (ap holds_answer (at_is_entry next all e past o.numbers at)) ∙ holds))))
 
   -- a reader of a quiet entry that asks for nothing again names a leading entry of a lesser number
   reader_number : (e : Entry) → ((n : ℕ) → asks_again e.event e.reply n ≡ false) → (r : Reader all e) → e.number ≡ r.request
@@ -279,7 +285,7 @@ module _ (next : ℕ) (all : List Entry) (o : IsOrderly next all) where
   reader_is_later e again r =
       subst (λ (n : ℕ). n < r.other.number) (sym (reader_number e again r)) (about_below r.past r.other r.request (reader_fits e r) (reader_about e r))
 
-  read_is_lead : (e : Entry) (past : List Entry) → IsAt all e past → ((n : ℕ) → asks_again e.event e.reply n ≡ false) → Reader all e → is_lead e ≡ true
+  pub read_is_lead : (e : Entry) (past : List Entry) → IsAt all e past → ((n : ℕ) → asks_again e.event e.reply n ≡ false) → Reader all e → is_lead e ≡ true
   read_is_lead e past at again r =
       lead_among r.request r.past e past (about_leads r.past r.other r.request (reader_fits e r) (reader_about e r))
       (older_before next all r.other r.past e past o.numbers r.at at (reader_is_later e again r))
@@ -294,7 +300,7 @@ module _ (next : ℕ) (all : List Entry) (o : IsOrderly next all) where
       (λ h. absurd (not_true (sym (reader_leads r.other.event r.other.reply r.request r.reads) ∙ open_is_lead r.other r.past r.at h)))
       (λ h. reader_serves all r.other r.other.event r.other.reply r.request r.reads h)
       (λ h. absurd (not_true (sym (reader_asks r.other.event r.other.reply r.request r.reads)
-          ∙ joins_by_asking r.past r.other (reader_fits e r) (waiting_joined r.other r.past r.at h))))
+      ∙ joins_by_asking r.past r.other (reader_fits e r) (waiting_joined r.other r.past r.at h))))
       (λ h. absurd (not_true (sym (ap (is_wrong_needed all r.other) (reader_guesses r.other.event r.other.reply r.request r.reads)) ∙ h)))
       (λ h. by_head (head_of all r.other r.past next o.numbers r.at h))
     where
@@ -302,7 +308,7 @@ module _ (next : ℕ) (all : List Entry) (o : IsOrderly next all) where
       by_head is =
           let whole = sym (ap head_is_open is) ∙ o.head in
           let either_way : (closes r.other.event r.other.reply r.request || is_open (r.other ∷ r.past) r.request) ≡ true =
-              sym (ap (closed_or_open r.other (r.other ∷ r.past)) r.reads) ∙ whole in
+          sym (ap (closed_or_open r.other (r.other ∷ r.past)) r.reads) ∙ whole in
           either (closes r.other.event r.other.reply r.request) (is_open (r.other ∷ r.past) r.request) either_way
           (λ h. absurd (not_true (sym c ∙ h)))
           (λ h. ap (λ (l : List Entry). is_open l r.request) is ∙ h)
@@ -328,24 +334,24 @@ module _ (next : ℕ) (all : List Entry) (o : IsOrderly next all) where
       (λ h. absurd (not_true (sym (ap (is_wrong_needed all e) (lead_guesses e.event e.reply lead)) ∙ h)))
       (λ h. let is = head_of all e past next o.numbers at h in ap (λ (l : List Entry). is_open l e.number) is ∙ head_opens e past lead)))
       (λ read. let r = reader_of all e all (λ x q i. i) read in
-          let number = reader_number e (λ n. lead_again e.event e.reply n lead) r in
-          cases (closes r.other.event r.other.reply r.request)
-          (λ c. inr (record {
-              entry = r.other;
-              past = r.past;
-              at = r.at;
-              kept = or_left (is_looked_at all r.past r.other) (is_read_with all r.other all) r.looked;
-              closing = ap (closes r.other.event r.other.reply) number ∙ c;
-              above = reader_is_later e (λ n. lead_again e.event e.reply n lead) r;
-          }))
-          (λ c. inl (ap (is_open all) number ∙ reader_open e r c)))
+      let number = reader_number e (λ n. lead_again e.event e.reply n lead) r in
+      cases (closes r.other.event r.other.reply r.request)
+      (λ c. inr (record {
+        entry = r.other;
+        past = r.past;
+        at = r.at;
+        kept = or_left (is_looked_at all r.past r.other) (is_read_with all r.other all) r.looked;
+        closing = ap (closes r.other.event r.other.reply) number ∙ c;
+        above = reader_is_later e (λ n. lead_again e.event e.reply n lead) r;
+      }))
+      (λ c. inl (ap (is_open all) number ∙ reader_open e r c)))
 
   -- a question that joined and is kept waits
   pub join_why : (e : Entry) (past : List Entry) → IsAt all e past → is_needed all past e ≡ true → is_some (joined e.reply) ≡ true → is_some (waits_for all e.number) ≡ true
   join_why e past at kept joins =
       let asks = joins_by_asking past e (fits_at all e past o.fits at) joins in
       let no_lead : is_lead e ≡ true → is_some (waits_for all e.number) ≡ true =
-          (λ lead. absurd (not_true (sym (ap is_some (lead_joins e.event e.reply lead)) ∙ joins))) in
+      (λ lead. absurd (not_true (sym (ap is_some (lead_joins e.event e.reply lead)) ∙ joins))) in
       either (is_looked_at all past e) (is_read_with all e all) kept
       (λ look. quiet_why (is_some (waits_for all e.number) ≡ true) e past at (ask_quiet e.event e.reply asks)
       (λ n h. absurd (not_true (sym (ask_closes e.event e.reply n asks) ∙ h)))
@@ -355,11 +361,11 @@ module _ (next : ℕ) (all : List Entry) (o : IsOrderly next all) where
       (λ h. h)
       (λ h. absurd (not_true (sym (ap (is_wrong_needed all e) (ask_guesses e.event asks)) ∙ h)))
       (λ h. let is = head_of all e past next o.numbers at h in
-          ap (λ (l : List Entry). is_some (waits_for l e.number)) is
-          ∙ (ap is_some (if_false (ends_waiting e.event e.reply e.number) None (if e.number == e.number then joined e.reply else waits_for past e.number) (ask_ends e.event e.reply e.number asks)
-          ∙ if_true (e.number == e.number) (joined e.reply) (waits_for past e.number) (same_number e.number)) ∙ joins)))
+      ap (λ (l : List Entry). is_some (waits_for l e.number)) is
+      ∙ (ap is_some (if_false (ends_waiting e.event e.reply e.number) None (if e.number == e.number then joined e.reply else waits_for past e.number) (ask_ends e.event e.reply e.number asks)
+      ∙ if_true (e.number == e.number) (joined e.reply) (waits_for past e.number) (same_number e.number)) ∙ joins)))
       (λ read. let r = reader_of all e all (λ x q i. i) read in
-          no_lead (read_is_lead e past at (λ n. ask_again e.event e.reply n asks) r))
+      no_lead (read_is_lead e past at (λ n. ask_again e.event e.reply n asks) r))
 
   -- a wrong guess that is kept counts
   pub wrong_why : (user : List ℕ) (e : Entry) (past : List Entry) → IsAt all e past → is_needed all past e ≡ true → (wrongs user e.event e.reply == 0) ≡ false →
@@ -367,7 +373,7 @@ module _ (next : ℕ) (all : List Entry) (o : IsOrderly next all) where
   wrong_why user e past at kept counts =
       let guess = wrong_guess user e.event e.reply counts in
       let no_lead : is_lead e ≡ true → is_since_accepted all user e.number ≡ true =
-          (λ lead. absurd (not_true (sym (guess_leads e.event e.reply guess) ∙ lead))) in
+      (λ lead. absurd (not_true (sym (guess_leads e.event e.reply guess) ∙ lead))) in
       either (is_looked_at all past e) (is_read_with all e all) kept
       (λ look. quiet_why (is_since_accepted all user e.number ≡ true) e past at (guess_quiet e.event e.reply guess)
       (λ n h. absurd (not_true (sym (guess_closes e.event e.reply n guess) ∙ h)))
@@ -376,12 +382,12 @@ module _ (next : ℕ) (all : List Entry) (o : IsOrderly next all) where
       (λ h. absurd (not_true (sym (guess_serves all e e.event guess) ∙ h)))
       (λ h. absurd (not_true (sym (guess_asks e.event guess) ∙ joins_by_asking past e (fits_at all e past o.fits at) (waiting_joined e past at h))))
       (λ h. second_holds (not (wrongs user e.event e.reply == 0)) (is_since_accepted all user e.number)
-          (sym (ap (is_wrong_needed all e) (whose_guess user e.event e.reply counts)) ∙ h))
+      (sym (ap (is_wrong_needed all e) (whose_guess user e.event e.reply counts)) ∙ h))
       (λ h. let is = head_of all e past next o.numbers at h in
-          ap (λ (l : List Entry). is_since_accepted l user e.number) is
-          ∙ (if_false (accepts past user e.event e.reply) false ((e.number == e.number) || is_since_accepted past user e.number)
-          (is_false (accepts past user e.event e.reply)
-          (λ a. not_true (sym counts ∙ is_equal (wrongs user e.event e.reply) 0 (accepted_counts_none past user e.event e.reply a))))
-          ∙ or_left (e.number == e.number) (is_since_accepted past user e.number) (same_number e.number))))
+      ap (λ (l : List Entry). is_since_accepted l user e.number) is
+      ∙ (if_false (accepts past user e.event e.reply) false ((e.number == e.number) || is_since_accepted past user e.number)
+      (is_false (accepts past user e.event e.reply)
+      (λ a. not_true (sym counts ∙ is_equal (wrongs user e.event e.reply) 0 (accepted_counts_none past user e.event e.reply a))))
+      ∙ or_left (e.number == e.number) (is_since_accepted past user e.number) (same_number e.number))))
       (λ read. let r = reader_of all e all (λ x q i. i) read in
-          no_lead (read_is_lead e past at (λ n. guess_again e.event e.reply n guess) r))
+      no_lead (read_is_lead e past at (λ n. guess_again e.event e.reply n guess) r))

@@ -1,5 +1,5 @@
 -- What a part of a journal shows to later events, where it shows all that the whole does.
-use Rattle.std.specs.Prelude.{ℕ, Bool, true, false, ◌≡◌, ◌≢◌, ◌≤◌, length, is_some, List, [], ◌∷◌, Option, Some, None}
+use Rattle.std.specs.Prelude.{ℕ, Bool, true, false, ◌≡◌, ◌≢◌, ◌≤◌, length, is_some, List, Some}
 use Rattle.sd_rules.specs.declared.keys.Key.{Key}
 use Rattle.sd_rules.specs.declared.records.Answered.{Answered}
 use Rattle.sd_rules.specs.declared.replies.Entry.{Entry}

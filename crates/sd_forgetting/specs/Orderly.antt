@@ -44,16 +44,19 @@ abbrev pub is_below : Option ℕ → ℕ → Bool
 is_below None n = true
 is_below (Some m) n = nat_lt m n
 
--- the entries of a number are leading ones
+-- the entries of a number are leading ones, and none closes it
+abbrev pub leads_or_other : ℕ → Entry → Bool
+leads_or_other n e = (not (e.number == n) || is_lead e) && not (closes e.event e.reply n)
+
 abbrev pub are_leads : ℕ → List Entry → Bool
 are_leads n [] = true
-are_leads n (e ∷ past) = (not (e.number == n) || is_lead e) && are_leads n past
+are_leads n (e ∷ past) = leads_or_other n e && are_leads n past
 
 abbrev pub names_leads : Option ℕ → List Entry → Bool
 names_leads None past = true
 names_leads (Some n) past = are_leads n past
 
--- an entry is about a request or an attempt that was opened before it, and only a question joins
+-- an entry is about a request or an attempt that was opened before it and not closed, and only a question joins
 abbrev pub entry_fits : List Entry → Entry → Bool
 entry_fits past e =
     (is_below (named_by e.event e.reply) e.number && names_leads (named_by e.event e.reply) past)
@@ -97,7 +100,7 @@ pub record IsNewestAnswer (past : List Entry) (n : ℕ) : Type 0 where
   pub number : answer.number ≡ n
 
 -- What holds of every journal that is reached: numbers rise below the next and moments never fall; an entry is about what was opened
--- before it; an answer that ended the last outage is the newest of its key; what a ticket will take names answers.
+-- before it and not closed; an answer that ended the last outage is the newest of its key; what a ticket will take names answers.
 pub record IsOrderly (next : ℕ) (past : List Entry) : Type 0 where
   pub numbers : numbers_fall next past ≡ true
   pub latest : ℕ

@@ -1,5 +1,5 @@
 -- Runs of steps with forgets at any places, and what forgetting leaves as it is.
-use Rattle.std.specs.Prelude.{ℕ, Bool, true, not, ◌≡◌, ◌&&◌, List, [], ◌∷◌}
+use Rattle.std.specs.Prelude.{Bool, true, not, ◌≡◌, ◌&&◌, List, [], ◌∷◌}
 use Rattle.sd_rules.specs.declared.events.Event.{Event}
 use Rattle.sd_rules.specs.declared.replies.Given.{Given}
 use Rattle.sd_rules.specs.Reaching.{Move, Append, Forget, after_forget, after_moves, can_make}
