@@ -1,20 +1,22 @@
 // Both cores, side by side.
-ghost use Rattle.std.specs.Prelude.{◌≤◌};
+ghost use Rattle.std.specs.Prelude.{◌≤◌, ◌<◌, ◌^◌, length, IfOk, IfSome};
 
 use crate::events::event;
 use crate::givens::print_given;
 use crate::kinds::is_steppable;
 use crate::output::{print, print_digits, print_line, print_number, print_word};
 use crate::replies::print_reply;
+use crate::rows::print_rows;
 use crate::words::Words;
 use sd_base::{Copied, Memory};
-use sd_core::{Core, PlainCore};
-use sd_rules::{Event, Given, Refused, Settings, StepFault};
+use sd_core::{Core, OpenFault, PlainCore};
+use sd_rules::{Event, Given, Refused, Rows, Settings, StepFault};
 use std::alloc::Global;
 
 /// The two cores, which are to answer alike.
 #[derive(Drop)]
 pub struct Cores {
+    settings: Settings,
     core: Core,
     plain: PlainCore,
 }
@@ -40,7 +42,7 @@ fn if_alike(plain: &Option<Answer>, core: Option<Answer>) -> Option<Answer> {
 
 /// A step of the core, where it can be made.
 fn step_core(core: &mut Core, now: u64, event: Event) -> Option<Answer> {
-    if is_steppable(core.journal().items(), &event) {
+    if is_steppable(core.journal(), &event) {
         Some(core.step(now, event))
     } else {
         None
@@ -48,7 +50,7 @@ fn step_core(core: &mut Core, now: u64, event: Event) -> Option<Answer> {
 }
 
 fn step_plain(plain: &mut PlainCore, now: u64, event: Event) -> Option<Answer> {
-    if is_steppable(plain.journal().items(), &event) {
+    if is_steppable(plain.journal(), &event) {
         Some(plain.step(now, event))
     } else {
         None
@@ -66,19 +68,57 @@ fn print_fault(out: &mut Vec<u8>, fault: StepFault) -> Result<(), Memory> {
 }
 
 fn last_moment(core: &Core) -> u64 {
-    match core.journal().items() {
+    match core.journal() {
         [] => 0,
         [.., last] => last.moment,
     }
 }
 
+/// The rows that both cores keep, where they keep the same.
+fn kept(core: &Core, plain: &PlainCore) -> Result<Option<Rows>, Memory>
+    ensures { IfOk result (λ rows. IfSome rows (λ rows. length rows < 2 ^ 32)) }
+{
+    let rows = core.kept()?;
+    if rows == plain.kept()? {
+        Ok(Some(rows))
+    } else {
+        Ok(None)
+    }
+}
+
 impl Cores {
-    pub fn open(alloc: Global, settings: Settings) -> Result<Cores, Memory> {
+    /// Both cores, opened with the same rows.
+    fn open_with(alloc: Global, settings: Settings, rows: Rows) -> Result<Cores, OpenFault>
+        requires { length rows < 2 ^ 32 }
+    {
         let settings = few_servers(settings);
+        let plain = PlainCore::open(alloc, settings.copy()?, rows.copy()?)?;
+        let core = Core::open(alloc, settings.copy()?, rows)?;
         Ok(Cores {
-            plain: PlainCore::open(alloc, settings.copy()?),
-            core: Core::open(alloc, settings),
+            settings,
+            core,
+            plain,
         })
+    }
+
+    pub fn open(alloc: Global, settings: Settings) -> Result<Cores, OpenFault> {
+        Cores::open_with(alloc, settings, Rows::new(alloc))
+    }
+
+    /// Prints the rows that both cores keep.
+    pub fn print_kept(&self, out: &mut Vec<u8>) -> Result<(), Memory> {
+        match kept(&self.core, &self.plain)? {
+            Some(rows) => print_rows(out, &rows),
+            None => print_line(out, b"the cores keep different rows"),
+        }
+    }
+
+    /// Opens both cores again with the rows that they keep, as a restart does.
+    pub fn reopen(&mut self, alloc: Global) -> Result<(), OpenFault> {
+        if let Some(rows) = kept(&self.core, &self.plain)? {
+            *self = Cores::open_with(alloc, self.settings.copy()?, rows)?;
+        }
+        Ok(())
     }
 
     fn print_entry(&self, out: &mut Vec<u8>, line: &[u8], given: &Given) -> Result<(), Memory> {

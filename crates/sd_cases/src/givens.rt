@@ -3,7 +3,8 @@ use crate::output::{print_number, print_word};
 use sd_base::{Memory, Text};
 use sd_rules::{Given, Hash, Record};
 
-fn print_record(out: &mut Vec<u8>, found: &Record) -> Result<(), Memory> {
+/// Prints who or what a record is of.
+pub fn print_record(out: &mut Vec<u8>, found: &Record) -> Result<(), Memory> {
     match found {
         Record::User(user) => {
             print_word(out, user.name.bytes())?;

@@ -1,33 +1,18 @@
 // Which events a step takes.
 ghost use Rattle.std.specs.Prelude.{◌≡◌, reverse};
 ghost use Rattle.std.specs.Option.{option_copied};
-ghost use Rattle.sd_rules.specs.Keys as keyed;
 ghost use Rattle.sd_rules.specs.Steps as steps;
 
 use sd_journal::past::key_of;
 use sd_journal::requests::is_open_request;
-use sd_rules::{Answered, Entry, Event, Key, Record};
-
-fn is_of_kind(found: &Record, key: &Key) -> bool
-    ensures { result ≡ keyed.is_of_kind found.now key.now }
-{
-    match found {
-        Record::User(_) => matches!(key, Key::User(_) | Key::Uid(_)),
-        Record::Group(_) => matches!(key, Key::Group(_) | Key::Gid(_)),
-        Record::Groups(_) => matches!(key, Key::GroupsOf(_)),
-        Record::Host(_) => matches!(key, Key::Host),
-        Record::Rules(_) => matches!(key, Key::Rules),
-    }
-}
+use sd_keeping::row_rules::is_answer_of_kind;
+use sd_rules::{Answered, Entry, Event, Key};
 
 fn answers_kind(own: Option<&Key>, answered: &Answered) -> bool
     ensures { result ≡ steps.answers_kind (option_copied own.entry) answered.now }
 {
     match own {
-        Some(key) => match answered {
-            Answered::Found(found) => is_of_kind(found, key),
-            Answered::Absent => true,
-        },
+        Some(key) => is_answer_of_kind(answered, key),
         None => true,
     }
 }

@@ -1,7 +1,7 @@
 // Plays worked journals on both cores: standard input has settings and steps, standard output gets the entries that they make.
 //
 // A line `settings ..` begins a journal (settings.rt says what it holds); any other line is a step, as a journal prints it: the moment
-// handed in and the event. Empty lines and lines that begin with `#` are printed as they stand.
+// handed in and the event. `kept` prints the rows that are kept, and `reopen` opens the cores again with them. Empty lines and lines that begin with `#` are printed as they stand.
 #![tactic(auto)]
 
 mod cores;
@@ -11,12 +11,14 @@ mod kinds;
 mod output;
 mod records;
 mod replies;
+mod rows;
 mod settings;
 mod words;
 
 use cores::Cores;
 use output::print_line;
 use sd_base::{Memory, ReaderSource, WriterSink, read_all, write_all};
+use sd_core::OpenFault;
 use std::alloc::Global;
 use std::process::ExitCode;
 use words::{Words, cut, is};
@@ -26,6 +28,29 @@ const LIMIT: usize = 1 << 20;
 
 fn is_comment(line: &[u8]) -> bool {
     matches!(line, [] | [b'#', ..])
+}
+
+/// Carries out a line that is no step, where it is one.
+fn play_other(
+    alloc: Global,
+    cores: &mut Cores,
+    line: &[u8],
+    out: &mut Vec<u8>,
+) -> Result<bool, OpenFault> {
+    let mut words = Words::new(line);
+    let name = words.word();
+    if is(name, b"settings") {
+        *cores = Cores::open(alloc, settings::read(alloc, &mut words)?)?;
+        print_line(out, line)?;
+    } else if is(name, b"reopen") {
+        cores.reopen(alloc)?;
+        print_line(out, line)?;
+    } else if is(name, b"kept") {
+        cores.print_kept(out)?;
+    } else {
+        return Ok(false);
+    }
+    Ok(true)
 }
 
 /// Carries out one line.
@@ -38,19 +63,21 @@ fn play_line(
     if is_comment(line) {
         return print_line(out, line);
     }
-    let mut words = Words::new(line);
-    let name = words.word();
-    if is(name, b"settings") {
-        *cores = Cores::open(alloc, settings::read(alloc, &mut words)?)?;
-        return print_line(out, line);
+    match play_other(alloc, cores, line, out) {
+        Ok(true) => Ok(()),
+        Ok(false) => cores.step(alloc, line, out),
+        Err(OpenFault::BadRows(_)) => print_line(out, b"bad rows"),
+        Err(OpenFault::Memory) => Err(Memory),
     }
-    cores.step(alloc, line, out)
 }
 
 /// What the lines of a text print.
 fn play(alloc: Global, text: &[u8]) -> Result<Vec<u8>, Memory> {
     let mut out = Vec::new(alloc);
-    let mut cores = Cores::open(alloc, settings::read(alloc, &mut Words::new(b""))?)?;
+    let settings = settings::read(alloc, &mut Words::new(b""))?;
+    let Ok(mut cores) = Cores::open(alloc, settings) else {
+        return Err(Memory);
+    };
     let mut left = text;
     for _ in 0..text.len() {
         let (line, rest) = cut(left, b'\n');

@@ -134,7 +134,7 @@ abbrev pub Below : ℕ → Option Standing → Type 0
 Below n None = Unit {0}
 Below n (Some a) = a.number < n
 
-at_own : (e : Entry) (past : List Entry) → event_at (e ∷ past) e.number ≡ Some e.event
+pub at_own : (e : Entry) (past : List Entry) → event_at (e ∷ past) e.number ≡ Some e.event
 at_own e past = rw (same_number e.number) refl
 
 stood_here : (e : Entry) (past : List Entry) (answered : Answered) → record_of e.event ≡ record_in_answer answered →

@@ -16,9 +16,11 @@ use Rattle.sd_rules.specs.Requests.{open_for}
 use Rattle.sd_rules.specs.Answers.{is_found, is_fresh, timeout_of, is_filtered, is_past_midpoint, is_renewable, reply_in_outage, reply_by_request, reply_unless_fresh, reply_if_fresh, reply_by_newest, reply_to_ask}
 use Rattle.sd_rules.specs.Logins.{Login, accepts, wrongs, wrong_count, last_wrong, is_at_limit, block_until, block_of, verdict_by_guess, verdict_unless_blocked, verdict_by_hash, usable_hash, is_expired, expiry_of}
 use Rattle.sd_rules.specs.Steps.{reply_to}
-use Rattle.sd_core.specs.Laws.{IsFreshAnswer, AskNames, NamesFresh, IsAfterBlock, WrongNames, WaitsForBlock}
+use Rattle.sd_core.specs.Sound.{falls_from}
+use Rattle.sd_core.specs.Laws.{are_asked_since, IsUnvoidedSinceAsking, IsFreshAnswer, AskNames, NamesFresh, IsAfterBlock, WrongNames, WaitsForBlock}
 use Rattle.sd_core.proofs.Room.{false_is_not_true}
 use Rattle.sd_core.proofs.KindLaws.{first_holds, second_holds}
+use Rattle.sd_core.proofs.AskedLaws.{unvoided_since_asking}
 
 -- a law of replies holds of a choice where it holds of both, each under its condition
 pub pick_law : (L : Reply → Type 0) (b : Bool) (f g : Reply) → (b ≡ true → L f) → (b ≡ false → L g) → L (if b then f else g)
@@ -29,16 +31,24 @@ not_true : (b : Bool) → not b ≡ true → b ≡ false
 not_true true h = absurd (false_is_not_true h)
 not_true false h = refl
 
-fresh_answer : (s : Settings) (past : List Entry) (t : ℕ) (k : Key) (a : Standing) → newest past k ≡ Some a → is_fresh s past t a ≡ true → IsFreshAnswer s past t k a.number
-fresh_answer s past t k a n f = record {
-  answer = a;
-  is_newest = n;
-  named = refl;
-  young =
-      let young = second_holds (not (is_voided past a)) (nat_lt (t - a.moment) (timeout_of s a)) f in
-      grind (arith, nat_tests, young);
-  unvoided = not_true (is_voided past a) (first_holds (not (is_voided past a)) (nat_lt (t - a.moment) (timeout_of s a)) f);
-}
+-- an answer that nothing voids after it was asked for after the last invalidation that covers it
+abbrev HasCleanNewest : List Entry → Key → Type 0
+HasCleanNewest past k = (a : Standing) → newest past k ≡ Some a → is_voided past a ≡ false → IsUnvoidedSinceAsking past a
+
+fresh_answer : (s : Settings) (past : List Entry) (t : ℕ) (k : Key) (a : Standing) → HasCleanNewest past k → newest past k ≡ Some a → is_fresh s past t a ≡ true →
+    IsFreshAnswer s past t k a.number
+fresh_answer s past t k a clean n f =
+    let unvoided = not_true (is_voided past a) (first_holds (not (is_voided past a)) (nat_lt (t - a.moment) (timeout_of s a)) f) in
+    record {
+      answer = a;
+      is_newest = n;
+      named = refl;
+      young =
+          let young = second_holds (not (is_voided past a)) (nat_lt (t - a.moment) (timeout_of s a)) f in
+          grind (arith, nat_tests, young);
+      unvoided = unvoided;
+      since_asking = clean a n unvoided;
+    }
 
 outage_law : (s : Settings) (past : List Entry) (t : ℕ) (k : Key) (o : ℕ) (x : Option Standing) → outage_at s.offline_timeout past t ≡ Some o → AskNames s past t k (reply_in_outage o x)
 outage_law s past t k o None h = h
@@ -62,23 +72,24 @@ fresh_law s past number t k a outage running h =
     (λ _. h)
     (λ _. pick_law (AskNames s past t k) (is_past_midpoint s t a && is_renewable outage running) (replies.Refresh a.number number) (replies.Fresh a.number) (λ _. h) (λ _. h))
 
-newest_law : (s : Settings) (past : List Entry) (number t : ℕ) (k : Key) (x : Option Standing) (outage running : Option ℕ) → newest past k ≡ x → outage_at s.offline_timeout past t ≡ outage →
+newest_law : (s : Settings) (past : List Entry) (number t : ℕ) (k : Key) (x : Option Standing) (outage running : Option ℕ) → HasCleanNewest past k → newest past k ≡ x → outage_at s.offline_timeout past t ≡ outage →
     AskNames s past t k (reply_by_newest s past number t x outage running)
-newest_law s past number t k None outage running n h = stale_law s past number t k None outage running h
-newest_law s past number t k (Some a) outage running n h =
+newest_law s past number t k None outage running clean n h = stale_law s past number t k None outage running h
+newest_law s past number t k (Some a) outage running clean n h =
     pick_law (AskNames s past t k) (is_fresh s past t a) (reply_if_fresh s number t a outage running) (reply_unless_fresh number (Some a) outage running)
-    (λ f. fresh_law s past number t k a outage running (fresh_answer s past t k a n f))
+    (λ f. fresh_law s past number t k a outage running (fresh_answer s past t k a clean n f))
     (λ _. stale_law s past number t k (Some a) outage running h)
 
-ask_law : (s : Settings) (past : List Entry) (number t : ℕ) (k : Key) → AskNames s past t k (reply_to_ask s past number t k)
-ask_law s past number t k =
+ask_law : (s : Settings) (past : List Entry) (number t : ℕ) (k : Key) → HasCleanNewest past k → AskNames s past t k (reply_to_ask s past number t k)
+ask_law s past number t k clean =
     pick_law (AskNames s past t k) (is_filtered s k) replies.Filtered
     (reply_by_newest s past number t (newest past k) (outage_at s.offline_timeout past t) (open_for past k)) (λ _. tt)
-    (λ _. newest_law s past number t k (newest past k) (outage_at s.offline_timeout past t) (open_for past k) refl refl)
+    (λ _. newest_law s past number t k (newest past k) (outage_at s.offline_timeout past t) (open_for past k) clean refl refl)
 
-pub names_fresh : (s : Settings) (past : List Entry) (number t : ℕ) (event : Event) → NamesFresh s past t event (reply_to s past number t event)
-names_fresh s past number t (events.Ask k) = ask_law s past number t k
-names_fresh s past number t _ = tt
+pub names_fresh : (s : Settings) (past : List Entry) (next number t : ℕ) (event : Event) → falls_from next past ≡ true → are_asked_since past ≡ true →
+    NamesFresh s past t event (reply_to s past number t event)
+names_fresh s past next number t (events.Ask k) f h = ask_law s past number t k (λ a. unvoided_since_asking next past k a f h)
+names_fresh s past next number t _ f h = tt
 
 -- a law of verdicts holds of a choice where it holds of both, each under its condition
 pick_verdict : (L : Verdict → Type 0) (b : Bool) (f g : Verdict) → (b ≡ true → L f) → (b ≡ false → L g) → L (if b then f else g)

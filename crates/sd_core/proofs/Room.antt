@@ -1,12 +1,12 @@
 -- Places: a step reserves at most one more, and one that gives a place back reserves one less.
-use Rattle.std.proofs.Common.{◌≡◌, ℕ, ◌+◌, ◌-◌, ◌*◌, ◌^◌, ◌≤◌, Bool, nat_lt, true, false, List, [], ◌∷◌, arith, refl, sym, subst, ◌∙◌}
+use Rattle.std.proofs.Common.{◌≡◌, ℕ, ◌+◌, ◌-◌, ◌*◌, ◌^◌, ◌<◌, ◌≤◌, Bool, nat_lt, true, false, List, [], ◌∷◌, arith, refl, sym, subst, ◌∙◌}
 use Rattle.std.specs.Prelude.{length, Option, Some, None, cond, is_some, ◌==◌, ◌||◌, if◌then◌else◌}
 use Rattle.std.proofs.lemmas.Grind.{common_steps}
 use Rattle.std.proofs.lemmas.Bool.Decides.{nat_tests}
 use Rattle.sd_rules.specs.declared.replies.Entry.{Entry}
 use Rattle.sd_rules.specs.Requests.{unclosed, closes, opens_request, opens_attempt, has_opened_request, has_opened_attempt, is_open, waits_for, ends_waiting, joined, reserves, reserved_among, reserved_places}
 use Rattle.sd_rules.specs.Steps.{Daemon, number_after, next_number, lacks_places, lacks_numbers}
-use Rattle.sd_core.specs.Sound.{falls_from}
+use Rattle.sd_core.specs.Sound.{falls_from, HasRoom}
 
 -- the next number is above the last entry's
 pub next_is_above : (next : ℕ) (past : List Entry) → falls_from next past ≡ true → number_after next past ≡ next
@@ -24,7 +24,7 @@ stands_later : (b s : Bool) → b ≡ false → (b || s) ≡ true → s ≡ true
 stands_later b s f h = let joined_up : (false || s) ≡ true = subst (λ c. (c || s) ≡ true) f h in joined_up
 
 -- whether an entry has a number
-abbrev stands : ℕ → List Entry → Bool
+abbrev pub stands : ℕ → List Entry → Bool
 stands n [] = false
 stands n (e ∷ past) = (e.number == n) || stands n past
 
@@ -126,7 +126,7 @@ open_by true b s x y f h = absurd (false_is_not_true h)
 open_by false true s x y f h = refl
 open_by false false s x y f h = f h
 
-open_stands : (past : List Entry) (n : ℕ) → is_open past n ≡ true → stands n past ≡ true
+pub open_stands : (past : List Entry) (n : ℕ) → is_open past n ≡ true → stands n past ≡ true
 open_stands [] n h = absurd (false_is_not_true h)
 open_stands (e ∷ past) n h =
     open_by (closes e.event e.reply n) (e.number == n) (stands n past) e (unclosed past n) (open_stands past n) h
@@ -182,7 +182,7 @@ given_back e past n h f g own =
     let none = place_free (reserves (e ∷ past) e.number) own in
     omega arith
 
-one_at_most : (b : Bool) → (if b then 1 else 0) ≤ 1
+pub one_at_most : (b : Bool) → (if b then 1 else 0) ≤ 1
 one_at_most true = omega arith
 one_at_most false = omega arith
 
@@ -214,3 +214,32 @@ numbers_left last next kept d l n k h =
     let here : nat_lt last (next + kept + 2) ≡ false = grind (arith, nat_tests, h) in
     let none : lacks_numbers d ≡ false = grind (arith, nat_tests, l, n, k, h, most) in
     here ∙ sym none
+
+-- where even a place for each entry is left, all that are reserved have theirs
+pub room_for_all : (past : List Entry) (capacity : ℕ) → 2 * length past + 2 ≤ capacity → HasRoom past capacity
+room_for_all past capacity h = omega (arith, reserved_at_most past)
+
+-- and still after one more entry
+pub room_for_more : (e : Entry) (past : List Entry) (capacity : ℕ) → falls_from e.number past ≡ true → 2 * length past + 2 ≤ capacity → HasRoom (e ∷ past) capacity
+room_for_more e past capacity falls h =
+    let more = one_more e past falls in
+    let most = reserved_at_most past in
+    omega arith
+
+-- an entry that gives a place back takes it
+pub room_given_back : (e : Entry) (past : List Entry) (capacity : ℕ) → HasRoom past capacity → reserved_places (e ∷ past) + 1 ≤ reserved_places past →
+    HasRoom (e ∷ past) capacity
+room_given_back e past capacity room back = omega arith
+
+-- and there is one to take
+pub place_to_take : (past : List Entry) (after capacity : ℕ) → HasRoom past capacity → after + 1 ≤ reserved_places past → length past < capacity
+place_to_take past after capacity room back = omega arith
+
+-- a number that an entry has is below the next
+pub stands_below : (next n : ℕ) (past : List Entry) → falls_from next past ≡ true → stands n past ≡ true → n < next
+stands_below next n [] h s = absurd (false_is_not_true s)
+stands_below next n (e ∷ past) h s = at_entry (e.number == n) refl (λ f. stands_below next n past (falls_on next e past h) f) s
+  where
+    at_entry : (b : Bool) → (e.number == n) ≡ b → (stands n past ≡ true → n < next) → (b || stands n past) ≡ true → n < next
+    at_entry true is later f = grind (arith, nat_tests, h, is)
+    at_entry false is later f = later f

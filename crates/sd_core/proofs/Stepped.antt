@@ -1,5 +1,5 @@
 -- A step that is not refused as full keeps the journal sound.
-use Rattle.std.proofs.Common.{◌≡◌, ℕ, ◌+◌, ◌-◌, ◌*◌, ◌^◌, ◌≤◌, Bool, true, false, List, [], ◌∷◌, arith, refl, sym, subst, inl, inr}
+use Rattle.std.proofs.Common.{◌≡◌, ℕ, ◌+◌, ◌-◌, ◌*◌, ◌^◌, ◌<◌, ◌≤◌, Bool, true, false, List, [], ◌∷◌, arith, refl, sym, subst, inl, inr}
 use Rattle.std.specs.Prelude.{Option, Some, None, cond, is_some, not, nat_lt, ◌⊎◌, ◌==◌, ◌&&◌, ◌||◌, if◌then◌else◌}
 use Rattle.std.proofs.lemmas.Bool.Decides.{nat_tests}
 use Rattle.sd_rules.specs.declared.events.Event.{Event}
@@ -10,9 +10,14 @@ use Rattle.sd_rules.specs.declared.replies.Reply.{Reply}
 use Rattle.sd_rules.specs.declared.replies.Reply.TheVariants as replies
 use Rattle.sd_rules.specs.declared.settings.Settings.{Settings}
 use Rattle.sd_rules.specs.Requests.{unclosed, closes, opens_request, opens_attempt, has_opened_request, has_opened_attempt, is_lead, is_bind, is_open, is_open_request, is_took, waits_for, ends_waiting, joined, reserves, reserved_places, outcome_of}
-use Rattle.sd_rules.specs.Steps.{Daemon, next_number, moment_of, reply_to, reply_to_collect, reply_to_leave, entry_made, recorded, after, gives_back, is_full, lacks_places, lacks_text, lacks_numbers}
+use Rattle.sd_rules.specs.Logins.{accepts, wrongs, wrong_count}
+use Rattle.sd_rules.specs.Steps.{Daemon, next_number, moment_of, reply_to, reply_to_collect, reply_to_leave, entry_made, after, gives_back, is_full, is_steppable, lacks_places, lacks_text, lacks_numbers}
 use Rattle.sd_rules.specs.TextBytes.{text_bytes, bytes_of_event}
-use Rattle.sd_core.specs.Sound.{falls_from, IsSound}
+use Rattle.sd_core.specs.Laws.{closes_place}
+use Rattle.sd_core.specs.Numbered.{gives_nothing, is_access}
+use Rattle.sd_core.specs.Sound.{falls_from, holds_row, row_holders, IsSound}
+use Rattle.sd_core.proofs.ClosingLaws.{closes_once_after}
+use Rattle.sd_core.proofs.RowLaws.{back_holds_none, holders_if_none, few_with_place, one_wrong, count_by_choice}
 use Rattle.sd_core.proofs.Room.{next_is_above, one_more, given_back, reserves_nothing, neither, same_number, false_is_not_true}
 
 -- what opens a request or an attempt joins nothing
@@ -180,56 +185,114 @@ back_without_text past (events.Collect n) g = refl
 back_without_text past _ g = absurd (false_is_not_true g)
 
 -- where there is room, or a place is given back
-has_room : (g p t n : Bool) → (not g && (p || (t || n))) ≡ false → (g ≡ true) ⊎ ((t ≡ false) × (n ≡ false))
+abbrev HasPlace : Daemon → Event → Type 0
+HasPlace d event = (lacks_places d ≡ false) × (lacks_text d event ≡ false) × (lacks_numbers d ≡ false)
+
+has_room : (g p t n : Bool) → (not g && (p || (t || n))) ≡ false → (g ≡ true) ⊎ ((p ≡ false) × (t ≡ false) × (n ≡ false))
 has_room true p t n h = inl refl
 has_room false true t n h = absurd (false_is_not_true (sym h))
 has_room false false true n h = absurd (false_is_not_true (sym h))
-has_room false false false n h = inr (refl, h)
+has_room false false false n h = inr (refl, refl, h)
 
-numbered_after : (d : Daemon) (now : ℕ) (event : Event) → IsSound d → falls_from (next_number d) d.past ≡ true
-numbered_after d now event sound = subst (λ n. falls_from n d.past ≡ true) (sym (next_is_above d.next d.past sound.numbers)) sound.numbers
+numbered_after : (d : Daemon) → IsSound d → falls_from (next_number d) d.past ≡ true
+numbered_after d sound = subst (λ n. falls_from n d.past ≡ true) (sym (next_is_above d.next d.past sound.numbers)) sound.numbers
 
-room_after : (d : Daemon) (now : ℕ) (event : Event) → IsSound d → (gives_back d.past event ≡ true) ⊎ ((lacks_text d event ≡ false) × (lacks_numbers d ≡ false)) →
+room_after : (d : Daemon) (now : ℕ) (event : Event) → IsSound d → (gives_back d.past event ≡ true) ⊎ HasPlace d event →
     next_number d + 1 + reserved_places (entry_made d now event ∷ d.past) ≤ 2 ^ 64 - 1
 room_after d now event sound (inl g) =
-    let back = step_back d.settings d.past (next_number d) (moment_of d now) event (numbered_after d now event sound) g in
+    let back = step_back d.settings d.past (next_number d) (moment_of d now) event (numbered_after d sound) g in
     let same = next_is_above d.next d.past sound.numbers in
     omega (arith, back, same, sound.room)
 room_after d now event sound (inr f) =
-    let more = one_more (entry_made d now event) d.past (numbered_after d now event sound) in
-    let enough = f.1 in
+    let more = one_more (entry_made d now event) d.past (numbered_after d sound) in
+    let enough = f.2 in
     grind (arith, nat_tests, more, enough)
 
-texts_after : (d : Daemon) (now : ℕ) (event : Event) → IsSound d → (gives_back d.past event ≡ true) ⊎ ((lacks_text d event ≡ false) × (lacks_numbers d ≡ false)) →
+texts_after : (d : Daemon) (now : ℕ) (event : Event) → IsSound d → (gives_back d.past event ≡ true) ⊎ HasPlace d event →
     bytes_of_event event + text_bytes d.past ≤ 512 * 1024 * 1024
 texts_after d now event sound (inl g) =
     let none = back_without_text d.past event g in
     omega (arith, none, sound.texts)
 texts_after d now event sound (inr f) =
-    let enough = f.0 in
+    let enough = f.1 in
     grind (arith, nat_tests, enough)
 
+rows_after : (d : Daemon) (event : Event) → d.settings.journal_limit < 2 ^ 32 → IsSound d → (gives_back d.past event ≡ true) ⊎ HasPlace d event →
+    (if holds_row event then 1 else 0) + row_holders d.past < 2 ^ 32 - 1
+rows_after d event limit sound (inl g) =
+    let same = holders_if_none (holds_row event) (row_holders d.past) (back_holds_none d.past event g) in
+    omega (arith, same, sound.rows)
+rows_after d event limit sound (inr f) = few_with_place d (holds_row event) limit f.0
+
+wrongs_after : (d : Daemon) (now : ℕ) (event : Event) → IsSound d → is_steppable d.past event ≡ true → (user : List ℕ) →
+    wrong_count (entry_made d now event ∷ d.past) user < next_number d + 1
+wrongs_after d now event sound h user =
+    let same = next_is_above d.next d.past sound.numbers in
+    let reply : Reply = (entry_made d now event).reply in
+    count_by_choice (accepts d.past user event reply) (wrongs user event reply) (wrong_count d.past user) (next_number d)
+    (one_wrong d.past event reply user h) (omega (arith, same, sound.wrongs.fewer user))
+
 -- a step that is not refused as full keeps the journal sound
-pub sound_after : (d : Daemon) (now : ℕ) (event : Event) → IsSound d → is_full d event ≡ false → IsSound (after d now event)
-sound_after d now event sound full =
+pub sound_after : (d : Daemon) (now : ℕ) (event : Event) → d.settings.journal_limit < 2 ^ 32 → IsSound d → is_steppable d.past event ≡ true → is_full d event ≡ false → IsSound (after d now event)
+sound_after d now event limit sound h full =
     let room = has_room (gives_back d.past event) (lacks_places d) (lacks_text d event) (lacks_numbers d) full in
     record {
       servers = sound.servers;
-      numbers = both_true (nat_lt (next_number d) (next_number d + 1)) (falls_from (next_number d) d.past) (grind (arith, nat_tests)) (numbered_after d now event sound);
+      numbers = both_true (nat_lt (next_number d) (next_number d + 1)) (falls_from (next_number d) d.past) (grind (arith, nat_tests)) (numbered_after d sound);
       room = room_after d now event sound room;
       texts = texts_after d now event sound room;
+      rows = rows_after d event limit sound room;
+      wrongs = record { fewer = λ user. wrongs_after d now event sound h user };
+      closings = closes_once_after d.settings d.past (next_number d) (moment_of d now) event (numbered_after d sound) sound.closings;
     }
 
--- the same of an entry by its parts
-pub sound_entry : (d : Daemon) (now : ℕ) (event : Event) (number moment : ℕ) (reply : Reply) →
+-- an entry of these parts is the one that a step makes
+pub entry_is : (d : Daemon) (now : ℕ) (event : Event) (number moment : ℕ) (reply : Reply) →
     number ≡ next_number d → moment ≡ moment_of d now → reply ≡ reply_to d.settings d.past (next_number d) moment event →
-    IsSound d → is_full d event ≡ false → IsSound (recorded d (entry_of number moment event reply))
-sound_entry d now event number moment reply n m r sound full =
-    let made : IsSound (recorded d (entry_made d now event)) = sound_after d now event sound full in
+    entry_of number moment event reply ≡ entry_made d now event
+entry_is d now event number moment reply n m r =
     let replied : reply ≡ reply_to d.settings d.past (next_number d) (moment_of d now) event =
     subst (λ t. reply ≡ reply_to d.settings d.past (next_number d) t event) m r in
-    let by_reply : IsSound (recorded d (entry_of (next_number d) (moment_of d now) event reply)) =
-    subst (λ a. IsSound (recorded d (entry_of (next_number d) (moment_of d now) event a))) (sym replied) made in
-    let by_moment : IsSound (recorded d (entry_of (next_number d) moment event reply)) =
-    subst (λ t. IsSound (recorded d (entry_of (next_number d) t event reply))) (sym m) by_reply in
-    subst (λ k. IsSound (recorded d (entry_of k moment event reply))) (sym n) by_moment
+    cc
+
+-- what closes a place is never refused as full, its reply takes no memory, and it gives back its place
+closing_gives_back_place : (past : List Entry) (event : Event) → closes_place past event ≡ true → gives_back past event ≡ true
+closing_gives_back_place past (events.Abandon n) h = h
+closing_gives_back_place past (events.Leave n) h = h
+closing_gives_back_place past _ h = absurd (false_is_not_true h)
+
+not_full : (g f : Bool) → g ≡ true → (not g && f) ≡ false
+not_full true f h = refl
+not_full false f h = absurd (false_is_not_true h)
+
+pub closing_has_room : (d : Daemon) (event : Event) → closes_place d.past event ≡ true → is_full d event ≡ false
+closing_has_room d event h =
+    not_full (gives_back d.past event) (lacks_places d || (lacks_text d event || lacks_numbers d)) (closing_gives_back_place d.past event h)
+
+pub closing_is_free : (past : List Entry) (event : Event) → closes_place past event ≡ true → is_access event ≡ false
+closing_is_free past (events.Access user service) h = absurd (false_is_not_true h)
+closing_is_free past _ h = refl
+
+closed_nothing : (o : Bool) → o ≡ true → gives_nothing (if o then replies.Closed else replies.NoRequest) ≡ true
+closed_nothing true h = refl
+closed_nothing false h = absurd (false_is_not_true h)
+
+left_nothing : (w : Option ℕ) → is_some w ≡ true → gives_nothing (reply_to_leave w) ≡ true
+left_nothing None h = absurd (false_is_not_true h)
+left_nothing (Some r) h = refl
+
+pub closing_gives_nothing : (s : Settings) (past : List Entry) (number moment : ℕ) (event : Event) → closes_place past event ≡ true →
+    gives_nothing (reply_to s past number moment event) ≡ true
+closing_gives_nothing s past number moment (events.Abandon n) h = closed_nothing (is_open past n) h
+closing_gives_nothing s past number moment (events.Leave n) h = left_nothing (waits_for past n) h
+closing_gives_nothing s past number moment _ h = absurd (false_is_not_true h)
+
+pub closing_place_back : (d : Daemon) (now : ℕ) (event : Event) → IsSound d → closes_place d.past event ≡ true →
+    reserved_places (entry_made d now event ∷ d.past) + 1 ≤ reserved_places d.past
+closing_place_back d now event sound h =
+    step_back d.settings d.past (next_number d) (moment_of d now) event (numbered_after d sound) (closing_gives_back_place d.past event h)
+
+pub closing_reply : (s : Settings) (past : List Entry) (number moment : ℕ) (event : Event) (reply : Reply) → reply ≡ reply_to s past number moment event →
+    closes_place past event ≡ true → gives_nothing reply ≡ true
+closing_reply s past number moment event reply is h =
+    subst (λ (r : Reply). gives_nothing r ≡ true) (sym is) (closing_gives_nothing s past number moment event h)

@@ -1,7 +1,8 @@
 -- Laws of every step, in the words of who asks: freshness, one open request for a key, equal outcomes, account checks, guesses.
-use Rattle.std.specs.Prelude.{ℕ, true, false, ◌≡◌, ◌≢◌, ◌<◌, ◌≤◌, ◌+◌, ◌-◌, ◌*◌, ◌%◌, List, Option, Some}
+use Rattle.std.specs.Prelude.{ℕ, Bool, true, false, ◌≡◌, ◌≢◌, ◌<◌, ◌≤◌, ◌+◌, ◌-◌, ◌*◌, ◌%◌, ◌==◌, ◌&&◌, ◌||◌, not, is_some, List, [], ◌∷◌, Option, Some, None}
 use Rattle.sd_rules.specs.declared.keys.Key.{Key}
 use Rattle.sd_rules.specs.declared.keys.Key.TheVariants as keys
+use Rattle.sd_rules.specs.declared.records.Answered.{Answered}
 use Rattle.sd_rules.specs.declared.records.Answered.TheVariants.{Found}
 use Rattle.sd_rules.specs.declared.records.Record.{Record}
 use Rattle.sd_rules.specs.declared.records.Record.TheVariants as records
@@ -13,29 +14,38 @@ use Rattle.sd_rules.specs.declared.replies.NotBy.{NotBy}
 use Rattle.sd_rules.specs.declared.replies.NotBy.TheVariants as not_by
 use Rattle.sd_rules.specs.declared.settings.AccessMode.TheVariants.{Ipa}
 use Rattle.sd_rules.specs.declared.events.Event.{Event}
-use Rattle.sd_rules.specs.declared.events.Event.TheVariants.{Access, Ask, LoginGuess}
+use Rattle.sd_rules.specs.declared.events.Event.TheVariants.{Abandon, Access, Answer, Ask, Collect, Leave, LoginGuess, Outage}
 use Rattle.sd_rules.specs.declared.replies.Entry.{Entry}
+use Rattle.sd_rules.specs.declared.replies.Outcome.{Outcome}
+use Rattle.sd_rules.specs.declared.replies.Outcome.TheVariants as outcomes
 use Rattle.sd_rules.specs.declared.replies.Reply.{Reply}
 use Rattle.sd_rules.specs.declared.replies.Reply.TheVariants as replies
 use Rattle.sd_rules.specs.declared.replies.Verdict.TheVariants as verdicts
 use Rattle.sd_rules.specs.declared.settings.Settings.{Settings}
 use Rattle.sd_rules.specs.Keys.{kind_of}
-use Rattle.sd_rules.specs.Past.{Standing, newest, is_voided, outage_at, key_of}
+use Rattle.sd_rules.specs.Past.{Standing, newest, is_closed, is_voided, outage_at, key_of}
 use Rattle.sd_rules.specs.Requests.{is_open, is_open_request, is_open_attempt, waits_for, outcome_of}
 use Rattle.sd_rules.specs.Answers.{timeout_of}
 use Rattle.sd_rules.specs.Logins.{wrong_count, last_wrong}
 use Rattle.sd_rules.specs.Access.{asker_of}
-use Rattle.sd_rules.specs.Steps.{Daemon, moment_of, record_in, event_named, answer_named_by_outcome}
+use Rattle.sd_rules.specs.Steps.{Daemon, moment_of, record_in, event_at, event_named, answer_named_by_outcome, void_since}
 use Rattle.sd_hbac.specs.Grants.{Grants, NoneMatches}
-use Rattle.sd_core.specs.Sound.{falls_from, holds_kinds, is_of_kind_of, found_fits}
+use Rattle.sd_core.specs.Sound.{falls_from, holds_kinds, is_of_kind_of, found_fits, all_name_earlier, moments_rise}
 
--- the entry n is the newest answer of the key; its age is less than its timeout, and no invalidation that covers it stands after it
+-- an answer to a request: no invalidation that covers it stands after the request's last asking
+abbrev pub IsUnvoidedSinceAsking : List Entry → Standing → Type 0
+IsUnvoidedSinceAsking past a =
+    (request : ℕ) (answered : Answered) → event_at past a.number ≡ Some (Answer request answered) → void_since past request a.own a.answered ≡ None
+
+-- The entry n is the newest answer of the key, and its age is less than its timeout. No invalidation that covers it stands after it,
+-- and of an answer to a request not even after the request's last asking. A kept row does not mark it as invalidated.
 pub record IsFreshAnswer (s : Settings) (past : List Entry) (t : ℕ) (k : Key) (n : ℕ) : Type 0 where
   pub answer : Standing
   pub is_newest : newest past k ≡ Some answer
   pub named : answer.number ≡ n
   pub young : t - answer.moment < timeout_of s answer
   pub unvoided : is_voided past answer ≡ false
+  pub since_asking : IsUnvoidedSinceAsking past answer
 
 -- what the reply to a question names: a fresh answer, or an outage that stands
 abbrev pub AskNames : Settings → List Entry → ℕ → Key → Reply → Type 0
@@ -50,6 +60,27 @@ AskNames s past t k _ = Unit {0}
 abbrev pub NamesFresh : Settings → List Entry → ℕ → Event → Reply → Type 0
 NamesFresh s past t (Ask k) reply = AskNames s past t k reply
 NamesFresh s past t _ reply = Unit {0}
+
+-- the entry o is the outage that closed the request which a ticket waits for
+pub record IsClosedByOutage (past : List Entry) (ticket o : ℕ) : Type 0 where
+  pub request : ℕ
+  pub waits : waits_for past ticket ≡ Some request
+  pub closed : event_at past o ≡ Some (Outage request)
+
+-- what an outcome that a ticket takes names: the outage that closed its request
+abbrev pub OutcomeNames : List Entry → ℕ → Outcome → Type 0
+OutcomeNames past ticket (outcomes.Old n o) = IsClosedByOutage past ticket o
+OutcomeNames past ticket (outcomes.OldGone n o) = IsClosedByOutage past ticket o
+OutcomeNames past ticket (outcomes.Dark o) = IsClosedByOutage past ticket o
+OutcomeNames past ticket _ = Unit {0}
+
+abbrev pub TookNames : List Entry → ℕ → Reply → Type 0
+TookNames past ticket (replies.Took outcome) = OutcomeNames past ticket outcome
+TookNames past ticket _ = Unit {0}
+
+abbrev pub NamesItsOutage : List Entry → Event → Reply → Type 0
+NamesItsOutage past (Collect ticket) reply = TookNames past ticket reply
+NamesItsOutage past _ reply = Unit {0}
 
 -- at most one request is open for a key
 pub record HasOneOpen (past : List Entry) : Type 0 where
@@ -124,16 +155,59 @@ abbrev pub GoesByRules : Settings → List Entry → Event → Reply → Type 0
 GoesByRules s past (Access user service) reply = AccessNames s past user service reply
 GoesByRules s past _ reply = Unit {0}
 
+-- an Abandon of what is open and a Leave of a ticket that waits: each gives back the place that was reserved for it
+abbrev pub closes_place : List Entry → Event → Bool
+closes_place past (Abandon n) = is_open past n
+closes_place past (Leave ticket) = is_some (waits_for past ticket)
+closes_place past _ = false
+
 -- What holds of every step, said of what it gives over the daemon before it.
 pub record FollowsLaws (d : Daemon) (now : ℕ) (event : Event) (given : Given) : Type 0 where
   pub fresh : NamesFresh d.settings d.past (moment_of d now) event given.reply
+  pub outage : NamesItsOutage d.past event given.reply
   pub by_rules : GoesByRules d.settings d.past event given.reply
   pub after_blocks : WaitsForBlock d.settings d.past (moment_of d now) event given.reply
   pub of_kind : found_fits d.past event given.found ≡ true
+
+-- an answer that closes its request comes with no invalidation that covers it after the request's last asking
+abbrev pub is_unvoided_since : List Entry → ℕ → Option Key → Answered → Bool
+is_unvoided_since past request None answered = true
+is_unvoided_since past request (Some own) answered = not (is_some (void_since past request own answered))
+
+abbrev pub is_asked_since : List Entry → Event → Reply → Bool
+is_asked_since past (Answer request answered) reply = not (is_closed reply) || is_unvoided_since past request (key_of past request) answered
+is_asked_since past _ reply = true
+
+abbrev pub are_asked_since : List Entry → Bool
+are_asked_since [] = true
+are_asked_since (e ∷ past) = is_asked_since past e.event e.reply && are_asked_since past
+
+-- an outage that shuts a request names itself
+abbrev pub is_outage_of : ℕ → Outcome → Bool
+is_outage_of number (outcomes.Old n o) = o == number
+is_outage_of number (outcomes.OldGone n o) = o == number
+is_outage_of number (outcomes.Dark o) = o == number
+is_outage_of number _ = true
+
+abbrev pub shuts_as : ℕ → Reply → Bool
+shuts_as number (replies.Shut outcome) = is_outage_of number outcome
+shuts_as number _ = true
+
+abbrev pub is_own_outage : ℕ → Event → Reply → Bool
+is_own_outage number (Outage n) reply = shuts_as number reply
+is_own_outage number _ reply = true
+
+abbrev pub are_own_outages : List Entry → Bool
+are_own_outages [] = true
+are_own_outages (e ∷ past) = is_own_outage e.number e.event e.reply && are_own_outages past
 
 -- What holds of every journal that the core keeps.
 pub record IsKept (d : Daemon) : Type 0 where
   pub numbers : falls_from d.next d.past ≡ true
   pub kinds : holds_kinds d.past ≡ true
+  pub asked : are_asked_since d.past ≡ true
+  pub outages : are_own_outages d.past ≡ true
+  pub names : all_name_earlier d.past ≡ true
+  pub moments : moments_rise d.past ≡ true
   pub open_once : HasOneOpen d.past
   pub tickets : HasFitTickets d.next d.past

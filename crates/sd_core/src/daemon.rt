@@ -1,13 +1,17 @@
 // The daemon's core, as the layers above use it.
-ghost use Rattle.std.specs.Prelude.{◌≡◌, ℕ, ◌+◌, ◌≤◌, [], true, false, reverse, IfOk, IfErr, OnErr, OnOk};
+ghost use Rattle.std.specs.Prelude.{◌≡◌, ℕ, ◌+◌, ◌*◌, ◌^◌, ◌<◌, ◌≤◌, true, false, length, reverse, sum_by, None, IfOk, IfErr, IsOk, OnErr, OnOk};
+ghost use Rattle.sd_rules.specs.KeptRows as kept;
 ghost use Rattle.sd_rules.specs.Reaching as reaching;
 ghost use Rattle.sd_rules.specs.Steps as steps;
+ghost use Rattle.sd_rules.specs.TextBytes as bytes;
 ghost use Rattle.sd_core.specs.Growth as growth;
 ghost use Rattle.sd_core.specs.Laws as laws;
 ghost use Rattle.sd_core.specs.Looks as looks;
+ghost use Rattle.sd_core.specs.Opens as opens;
 
-use crate::plain::{Look, PlainCore};
-use sd_rules::{Event, Given, Journal, Refused, Settings, StepFault};
+use crate::plain::{Look, OpenFault, PlainCore};
+use sd_base::Memory;
+use sd_rules::{Entry, Event, Given, Refused, Rows, Settings, StepFault};
 use std::alloc::Global;
 use std::marker::Model;
 
@@ -29,21 +33,33 @@ impl Model for Core {
 }
 
 impl Core {
-    /// A core without entries. At most 64 servers.
-    pub fn open(alloc: Global, settings: Settings) -> Core
-        requires { settings.primaries + settings.backups ≤ 64 }
-        ensures { result ≡ record { settings = settings; next = 1; floor = 0; past = [] } }
+    /// A core with kept rows: an entry for each but the head. Without rows it has none. At most 64 servers.
+    pub fn open(alloc: Global, settings: Settings, rows: Rows) -> Result<Core, OpenFault>
+        requires servers { settings.primaries + settings.backups ≤ 64 }
+        requires few { length rows < 2 ^ 32 }
+        ensures opened { IfOk result (λ core. core ≡ kept.opened settings rows) }
+        ensures good { OnOk result (kept.bad_row rows ≡ None) }
+        ensures fault { IfErr result (opens.FaultOf rows) }
+        ensures kept { IfOk result laws.IsKept }
     {
-        Core {
-            plain: PlainCore::open(alloc, settings),
-        }
+        let plain = PlainCore::open(alloc, settings, rows)?;
+        Ok(Core { plain })
     }
 
     /// The entries made so far, the oldest first.
-    pub fn journal(&self) -> &Journal
+    pub fn journal(&self) -> &[Entry]
         ensures { reverse result.now ≡ self.now.past }
     {
         self.plain.journal()
+    }
+
+    /// The rows that are kept of the journal over a restart.
+    pub fn kept(&self) -> Result<Rows, Memory>
+        ensures rows { IfOk result (λ rows. rows ≡ kept.rows_of self.now) }
+        ensures few { IfOk result (λ rows. length rows < 2 ^ 32) }
+        ensures texts { IfOk result (λ rows. sum_by bytes.bytes_of_row rows ≤ 512 * 1024 * 1024) }
+    {
+        self.plain.kept()
     }
 
     /// What a ticket waits for. It makes no entry and takes no memory.
@@ -61,7 +77,8 @@ impl Core {
     }
 
     /// Makes the entry of an event and gives what it says; `now` is the moment handed in, in seconds. A full journal refuses before
-    /// memory is asked for. A refused step leaves the core as it was and hands the event back.
+    /// memory is asked for. A refused step leaves the core as it was and hands the event back. An Abandon of what is open and a Leave
+    /// of a ticket that waits take no memory.
     pub fn step(&mut self, now: u64, event: Event) -> Result<Given, Refused>
         requires { steps.is_steppable self.old.past event ≡ true }
         ensures made { OnOk result (self.new ≡ steps.after self.old now event) }
@@ -71,6 +88,8 @@ impl Core {
         ensures full_only { IfErr result (λ refused. (n : ℕ) → refused.fault ≡ StepFault.JournalFull n → (steps.is_full self.old event ≡ true) × (n ≡ steps.full_count self.old)) }
         ensures back { IfErr result (λ refused. refused.event ≡ event) }
         ensures unchanged { OnErr result (self.new ≡ self.old) }
+        ensures closing { laws.closes_place self.old.past event ≡ true → IsOk result }
+        ensures texts { bytes.text_bytes self.new.past ≤ 512 * 1024 * 1024 }
 
         // What follows from the definitions, for every journal that the core keeps.
         ensures laws { IfOk result (laws.FollowsLaws self.old now event) }

@@ -1,7 +1,8 @@
 // What a step gives beside its reply: the record, the stored hash and the rule's name that the reply names.
-ghost use Rattle.std.specs.Prelude.{◌≡◌, reverse, IfOk};
+ghost use Rattle.std.specs.Prelude.{◌≡◌, true, reverse, None, IfOk, IsOk};
 ghost use Rattle.std.specs.Option.{option_copied};
 ghost use Rattle.sd_rules.specs.Steps as steps;
+ghost use Rattle.sd_core.specs.Numbered as replies;
 
 use sd_base::{Copied, Memory, Text};
 use sd_rules::{
@@ -133,7 +134,8 @@ fn rule_named(entries: &[Entry], reply: Reply) -> Option<&Text>
 
 /// A copy of what is there.
 fn copy_of<T: Copied>(item: Option<&T>) -> Result<Option<T>, Memory>
-    ensures { IfOk result (λ copy. copy ≡ option_copied item.entry) }
+    ensures made { IfOk result (λ copy. copy ≡ option_copied item.entry) }
+    ensures free { option_copied item.entry ≡ None → IsOk result }
 {
     match item {
         Some(item) => Ok(Some(item.copy()?)),
@@ -143,7 +145,8 @@ fn copy_of<T: Copied>(item: Option<&T>) -> Result<Option<T>, Memory>
 
 /// What an entry of this number and reply gives, over the entries before it.
 pub fn given_by(entries: &[Entry], number: u64, reply: Reply) -> Result<Given, Memory>
-    ensures { IfOk result (λ given. given ≡ steps.given_by (reverse entries.now) number reply) }
+    ensures made { IfOk result (λ given. given ≡ steps.given_by (reverse entries.now) number reply) }
+    ensures free { replies.gives_nothing reply ≡ true → IsOk result }
 {
     Ok(Given {
         number,

@@ -7,8 +7,9 @@ pub mod given;
 pub mod lists;
 pub mod plain;
 pub mod replies;
+pub mod spare;
 pub mod text_bytes;
 
 pub use daemon::Core;
 pub use lists::{Answers, GivenList, ListFault, Step, answer_all};
-pub use plain::{Look, PlainCore};
+pub use plain::{Look, OpenFault, PlainCore};

@@ -1,8 +1,9 @@
 // Lists of steps, over any core that answers as the abstract daemon.
-ghost use Rattle.std.specs.Prelude.{◌≡◌, ℕ, ◌+◌, true, false, IfOk, IfErr, OnErr, OnOk};
+ghost use Rattle.std.specs.Prelude.{◌≡◌, ℕ, ◌+◌, true, false, IfOk, IfErr, IsOk, OnErr, OnOk};
 ghost use Rattle.sd_rules.specs.Reaching as reaching;
 ghost use Rattle.sd_rules.specs.Steps as steps;
 ghost use Rattle.sd_core.specs.Growth as growth;
+ghost use Rattle.sd_core.specs.Laws as laws;
 ghost use Rattle.sd_core.specs.Lists as lists;
 ghost use Rattle.sd_core.specs.declared.lists.ListFault.TheVariants as faults;
 
@@ -36,7 +37,8 @@ pub trait Answers {
         ensures full { steps.is_full (daemon self.old) event ≡ true → IfErr result (λ refused. refused.fault ≡ StepFault.JournalFull (steps.full_count (daemon self.old))) }
         ensures full_only { IfErr result (λ refused. (n : ℕ) → refused.fault ≡ StepFault.JournalFull n → (steps.is_full (daemon self.old) event ≡ true) × (n ≡ steps.full_count (daemon self.old))) }
         ensures back { IfErr result (λ refused. refused.event ≡ event) }
-        ensures unchanged { OnErr result (daemon self.new ≡ daemon self.old) };
+        ensures unchanged { OnErr result (daemon self.new ≡ daemon self.old) }
+        ensures closing { laws.closes_place (daemon self.old).past event ≡ true → IsOk result };
 }
 
 impl Answers for PlainCore {

@@ -1,17 +1,23 @@
 // The core, which answers from the list of its entries.
-ghost use Rattle.std.specs.Prelude.{◌≡◌, ◌↔◌, ℕ, ◌+◌, ◌-◌, ◌*◌, ◌^◌, ◌<◌, ◌≤◌, [], true, false, length, reverse, min, IfOk, IfErr, IfSome, IsSome, OnErr, OnOk};
+ghost use Rattle.std.specs.Prelude.{◌≡◌, ◌↔◌, ℕ, ◌+◌, ◌-◌, ◌*◌, ◌^◌, ◌<◌, ◌≤◌, [], ◌∷◌, true, false, length, reverse, min, sum_by, None, IfOk, IfErr, IfSome, IsOk, IsSome, OnErr, OnOk};
+ghost use Rattle.sd_rules.specs.KeptRows as kept;
 ghost use Rattle.sd_rules.specs.Requests as requests;
 ghost use Rattle.sd_rules.specs.Steps as steps;
 ghost use Rattle.sd_rules.specs.TextBytes as bytes;
+ghost use Rattle.sd_core.specs.Laws as laws;
 ghost use Rattle.sd_core.specs.Looks as looks;
+ghost use Rattle.sd_core.specs.Opens as opens;
 ghost use Rattle.sd_core.specs.Sound as sound;
+ghost use Rattle.sd_core.specs.declared.plain.OpenFault.TheVariants as faults;
 
 use crate::given::given_by;
 use crate::replies::{reply_to, reply_to_collect};
-use crate::text_bytes::of_event;
+use crate::spare::{make_room, put};
+use crate::text_bytes::{of_entries, of_event};
 use sd_base::Memory;
 use sd_journal::requests::{is_open, is_open_request, is_took, reserved_places, waits_for};
-use sd_rules::{Entry, Event, Given, Journal, Refused, Settings, StepFault};
+use sd_keeping::{OpenJournal, bad_row, opened, rows_of};
+use sd_rules::{Entry, Event, Given, Refused, Rows, Settings, StepFault};
 use std::alloc::Global;
 use std::marker::Model;
 
@@ -26,20 +32,37 @@ pub struct PlainCore {
     next: u64,
     floor: u64,
     text_bytes: u64,
-    entries: Journal,
+    /// The oldest first, with room for those that close what is open.
+    entries: Vec<Entry>,
 }
 
 impl Model for PlainCore {
-    ghost use Rattle.std.specs.Prelude.{◌≡◌, reverse};
+    ghost use Rattle.std.specs.Prelude.{reverse, vec_capacity};
     ghost use Rattle.sd_rules.specs.Steps as steps;
-    ghost use Rattle.sd_rules.specs.TextBytes as bytes;
-    ghost use Rattle.sd_core.specs.Sound as sound;
+    ghost use Rattle.sd_core.specs.Held as held;
 
     ghost Value = { steps.Daemon };
 
-    ghost view = { λ c. record { settings = c.settings; next = c.next; floor = c.floor; past = reverse c.entries } };
+    ghost view = { λ c. held.daemon_of c.settings c.next c.floor c.entries.items };
 
-    ghost invariant = { λ c. (c.text_bytes ≡ bytes.text_bytes (reverse c.entries)) × sound.IsSound (record { settings = c.settings; next = c.next; floor = c.floor; past = reverse c.entries }) };
+    ghost invariant = { λ c. held.IsHeld c.settings c.next c.floor c.text_bytes c.entries.items (vec_capacity c.entries) };
+}
+
+/// Why a core is not opened.
+#[derive(Clone, Copy, Debug, PartialEq, Eq)]
+pub enum OpenFault {
+    /// The first row that is against the rules for kept rows, by its place, counted from 0.
+    BadRows(u32),
+    /// Want of memory.
+    Memory,
+}
+
+impl From<Memory> for OpenFault {
+    ghost from_gives = { λ _ fault. fault ≡ faults.Memory };
+
+    fn from(_memory: Memory) -> OpenFault {
+        OpenFault::Memory
+    }
 }
 
 /// What a ticket waits for.
@@ -107,33 +130,56 @@ fn gives_back(entries: &[Entry], event: &Event) -> bool
 }
 
 impl PlainCore {
-    /// A core without entries.
-    pub fn open(alloc: Global, settings: Settings) -> PlainCore
-        requires { settings.primaries + settings.backups ≤ 64 }
-        ensures { result ≡ record { settings = settings; next = 1; floor = 0; past = [] } }
+    /// A core with kept rows: an entry for each but the head. Without rows it has none. At most 64 servers.
+    pub fn open(alloc: Global, settings: Settings, rows: Rows) -> Result<PlainCore, OpenFault>
+        requires servers { settings.primaries + settings.backups ≤ 64 }
+        requires few { length rows < 2 ^ 32 }
+        ensures opened { IfOk result (λ core. core ≡ kept.opened settings rows) }
+        ensures good { OnOk result (kept.bad_row rows ≡ None) }
+        ensures fault { IfErr result (opens.FaultOf rows) }
+        ensures kept { IfOk result laws.IsKept }
     {
-        PlainCore {
+        if let Some(place) = bad_row(&rows) {
+            return Err(OpenFault::BadRows(place as u32));
+        }
+        let OpenJournal {
+            next,
+            floor,
+            mut entries,
+        } = opened(alloc, &rows)?;
+        make_room(&mut entries)?;
+        let text_bytes = of_entries(entries.as_slice());
+        Ok(PlainCore {
             alloc,
             settings,
-            next: 1,
-            floor: 0,
-            text_bytes: 0,
-            entries: Journal::new(alloc),
-        }
+            next,
+            floor,
+            text_bytes,
+            entries,
+        })
     }
 
     /// The entries made so far, the oldest first.
-    pub fn journal(&self) -> &Journal
+    pub fn journal(&self) -> &[Entry]
         ensures { reverse result.now ≡ self.now.past }
     {
-        &self.entries
+        self.entries.as_slice()
+    }
+
+    /// The rows that are kept of the journal over a restart.
+    pub fn kept(&self) -> Result<Rows, Memory>
+        ensures rows { IfOk result (λ rows. rows ≡ kept.rows_of self.now) }
+        ensures few { IfOk result (λ rows. length rows < 2 ^ 32) }
+        ensures texts { IfOk result (λ rows. sum_by bytes.bytes_of_row rows ≤ 512 * 1024 * 1024) }
+    {
+        rows_of(self.alloc, self.next, self.floor, self.entries.as_slice())
     }
 
     /// What a ticket waits for. It makes no entry and takes no memory.
     pub fn look(&self, ticket: u64) -> Look
         ensures { result ≡ looks.look_of self.now.past ticket }
     {
-        let entries = self.entries.items();
+        let entries = self.entries.as_slice();
         look_by(entries, waits_for(entries, ticket))
     }
 
@@ -141,7 +187,7 @@ impl PlainCore {
     pub fn stopping(&self) -> bool
         ensures { result ≡ looks.has_stopped self.now.past }
     {
-        has_stopped(self.entries.items())
+        has_stopped(self.entries.as_slice())
     }
 
     /// The number of the next entry.
@@ -156,16 +202,17 @@ impl PlainCore {
     fn full_count(&self) -> u64
         ensures { result ≡ steps.full_count self.now }
     {
-        let entries = self.entries.items();
+        let entries = self.entries.as_slice();
         (entries.len() + reserved_places(entries)) as u64
     }
 
     /// Places are counted only where they could be too few: each entry reserves at most one.
-    fn lacks_places(&self) -> bool
+    fn lacks_places(&self, limit: u128) -> bool
+        requires { limit ≡ self.now.settings.journal_limit }
         ensures { result ≡ steps.lacks_places self.now }
     {
-        let limit = u128::from(self.settings.journal_limit);
-        limit < 2 * (self.entries.len() as u128) + 2 && limit < u128::from(self.full_count()) + 2
+        let entries = self.entries.as_slice();
+        limit < 2 * (entries.len() as u128) + 2 && limit < u128::from(self.full_count()) + 2
     }
 
     fn lacks_text(&self, event: &Event) -> bool
@@ -180,31 +227,35 @@ impl PlainCore {
     {
         let last = u128::from(u64::MAX);
         let next = u128::from(self.next_number());
-        let entries = self.entries.items();
+        let entries = self.entries.as_slice();
         last < next + entries.len() as u128 + 2
             && last < next + reserved_places(entries) as u128 + 2
     }
 
     /// Whether the journal has no room for an event.
     fn is_full(&self, event: &Event) -> bool
-        ensures { result ≡ steps.is_full self.now event.now }
+        ensures exact { result ≡ steps.is_full self.now event.now }
+        ensures small { self.now.settings.journal_limit < 2 ^ 32 }
     {
-        !gives_back(self.entries.items(), event)
-            && (self.lacks_places() || self.lacks_text(event) || self.lacks_numbers())
+        let limit = u128::from(self.settings.journal_limit);
+        !gives_back(self.entries.as_slice(), event)
+            && (self.lacks_places(limit) || self.lacks_text(event) || self.lacks_numbers())
     }
 
     fn moment_of(&self, now: u64) -> u64
         ensures moment { result ≡ steps.moment_of self.now now }
         ensures sound { sound.IsSound self.now }
+        ensures kept { laws.IsKept self.now }
     {
-        next_moment(self.floor, self.entries.items(), now)
+        next_moment(self.floor, self.entries.as_slice(), now)
     }
 
     /// What the step of an event would give.
     fn given(&self, moment: u64, event: &Event) -> Result<Given, Memory>
-        ensures { IfOk result (λ given. given ≡ steps.given_by self.now.past (steps.next_number self.now) (steps.reply_to self.now.settings self.now.past (steps.next_number self.now) moment event.now)) }
+        ensures made { IfOk result (λ given. given ≡ steps.given_by self.now.past (steps.next_number self.now) (steps.reply_to self.now.settings self.now.past (steps.next_number self.now) moment event.now)) }
+        ensures closing { laws.closes_place self.now.past event.now ≡ true → IsOk result }
     {
-        let entries = self.entries.items();
+        let entries = self.entries.as_slice();
         let number = self.next_number();
         let reply = reply_to(self.alloc, &self.settings, entries, number, moment, event)?;
         given_by(entries, number, reply)
@@ -212,24 +263,24 @@ impl PlainCore {
 
     /// Puts an entry at the end of the journal, or hands its event back for want of memory.
     fn append(&mut self, entry: Entry) -> Result<(), Event>
-        requires { sound.IsSound (steps.recorded self.old entry) }
+        requires sound { sound.IsSound (steps.recorded self.old entry) }
+        requires kept { laws.IsKept (steps.recorded self.old entry) }
+        requires back { laws.closes_place self.old.past entry.event ≡ true → requests.reserved_places (entry ∷ self.old.past) + 1 ≤ requests.reserved_places self.old.past }
         ensures ok { OnOk result (self.new ≡ steps.recorded self.old entry) }
         ensures err { IfErr result (λ event. (self.new ≡ self.old) × (event ≡ entry.event)) }
+        ensures closing { laws.closes_place self.old.past entry.event ≡ true → IsOk result }
     {
         let next = entry.number + 1;
         let text_bytes = self.text_bytes + of_event(&entry.event);
-        match self.entries.offer(entry) {
-            Ok(()) => {
-                self.next = next;
-                self.text_bytes = text_bytes;
-                Ok(())
-            }
-            Err(failed) => Err(failed.value.event),
-        }
+        put(&mut self.entries, entry)?;
+        self.next = next;
+        self.text_bytes = text_bytes;
+        Ok(())
     }
 
     /// Makes the entry of an event and gives what it says; `now` is the moment handed in, in seconds. A full journal refuses before
-    /// memory is asked for. A refused step leaves the core as it was and hands the event back.
+    /// memory is asked for. A refused step leaves the core as it was and hands the event back. An Abandon of what is open and a Leave
+    /// of a ticket that waits take no memory.
     pub fn step(&mut self, now: u64, event: Event) -> Result<Given, Refused>
         requires { steps.is_steppable self.old.past event ≡ true }
         ensures made { OnOk result (self.new ≡ steps.after self.old now event) }
@@ -239,12 +290,15 @@ impl PlainCore {
         ensures full_only { IfErr result (λ refused. (n : ℕ) → refused.fault ≡ StepFault.JournalFull n → (steps.is_full self.old event ≡ true) × (n ≡ steps.full_count self.old)) }
         ensures back { IfErr result (λ refused. refused.event ≡ event) }
         ensures unchanged { OnErr result (self.new ≡ self.old) }
+        ensures closing { laws.closes_place self.old.past event ≡ true → IsOk result }
+        ensures of_kind { IfOk result (λ given. sound.found_fits self.old.past event given.found ≡ true) }
+        ensures texts { bytes.text_bytes self.new.past ≤ 512 * 1024 * 1024 }
     {
+        let moment = self.moment_of(now);
         if self.is_full(&event) {
             let fault = StepFault::JournalFull(self.full_count());
             return Err(Refused { fault, event });
         }
-        let moment = self.moment_of(now);
         let Ok(given) = self.given(moment, &event) else {
             let fault = StepFault::Memory;
             return Err(Refused { fault, event });

@@ -1,5 +1,5 @@
 // The reply to every event.
-ghost use Rattle.std.specs.Prelude.{◌≡◌, ◌+◌, ◌<◌, ◌^◌, true, reverse, IfOk};
+ghost use Rattle.std.specs.Prelude.{◌≡◌, ◌+◌, ◌<◌, ◌^◌, true, false, reverse, IfOk, IsOk};
 ghost use Rattle.std.specs.Option.{option_copied, option_map};
 ghost use Rattle.sd_rules.specs.Steps as steps;
 ghost use Rattle.sd_rules.specs.TextBytes as bytes;
@@ -192,7 +192,7 @@ fn reply_to_try(
     }
 }
 
-/// The reply to an event that names a request or an attempt. Others are Done here.
+/// The reply to an event that names a request or an attempt. Here any other has NoRequest, too.
 fn reply_under_number(
     settings: &Settings,
     entries: &[Entry],
@@ -241,7 +241,8 @@ pub fn reply_to(
 ) -> Result<Reply, Memory>
     requires servers { settings.now.primaries + settings.now.backups < 2 ^ 32 }
     requires texts { bytes.text_bytes (reverse entries.now) < 2 ^ 32 }
-    ensures { IfOk result (λ reply. reply ≡ steps.reply_to settings.now (reverse entries.now) number t event.now) }
+    ensures made { IfOk result (λ reply. reply ≡ steps.reply_to settings.now (reverse entries.now) number t event.now) }
+    ensures free { replies.is_access event.now ≡ false → IsOk result }
 {
     Ok(match event {
         Event::Ask(key) => reply_to_ask(settings, entries, number, t, key),

@@ -53,7 +53,8 @@ fn is_attempt_of(entries: &[Entry], attempt: u64, user: &Text) -> bool
     }
 }
 
-fn hash_carried(outcome: &LoginResult) -> Option<bool>
+/// Of an online login that the server accepted, whether it carries a hash.
+pub fn hash_carried(outcome: &LoginResult) -> Option<bool>
     ensures { result ≡ logins.hash_carried outcome.now }
 {
     match outcome {
@@ -165,7 +166,7 @@ fn is_wrong(reply: Reply) -> bool
 }
 
 /// Whether an entry accepts the user, online or by a stored hash; `before` are the entries before it.
-fn accepts(before: &[Entry], user: &Text, event: &Event, reply: Reply) -> bool
+pub fn accepts(before: &[Entry], user: &Text, event: &Event, reply: Reply) -> bool
     ensures { result ≡ logins.accepts (reverse before.now) user.now event.now reply }
 {
     match event {
@@ -181,7 +182,7 @@ fn accepts(before: &[Entry], user: &Text, event: &Event, reply: Reply) -> bool
 }
 
 /// How many wrong guesses of the user an entry counts for.
-fn wrongs(user: &Text, event: &Event, reply: Reply) -> u64
+pub fn wrongs(user: &Text, event: &Event, reply: Reply) -> u64
     ensures { result ≡ logins.wrongs user.now event.now reply }
 {
     match event {

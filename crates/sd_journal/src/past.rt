@@ -53,6 +53,7 @@ pub fn key_of(entries: &[Entry], request: u64) -> Option<&Key>
     None
 }
 
+/// An answer as the answer to the key of its request, where it has one.
 fn answer_under<'a>(
     entry: &'a Entry,
     answered: &'a Answered,
@@ -73,7 +74,7 @@ fn answer_under<'a>(
 }
 
 /// The answer that an entry holds; `before` are the entries before it.
-fn answer_in<'a>(before: &'a [Entry], entry: &'a Entry) -> Option<Standing<'a>>
+pub fn answer_in<'a>(before: &'a [Entry], entry: &'a Entry) -> Option<Standing<'a>>
     ensures { option_map seen.standing result ≡ past.answer_in (reverse before.now) entry.now }
 {
     match &entry.event {
@@ -175,7 +176,7 @@ fn ends_outage(event: &Event, reply: Reply) -> bool
     }
 }
 
-/// Whether a span of seconds that began at a moment is over at t: its end is the first moment after it.
+/// Whether a moment t comes before the end of a span of seconds: the end is the first moment that is not within it.
 pub fn is_within(begin: u64, span: u64, t: u64) -> bool
     ensures { result ≡ nat_lt t (begin + span) }
 {

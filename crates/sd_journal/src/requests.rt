@@ -25,7 +25,7 @@ pub fn is_try_accepted(reply: Reply) -> bool
 }
 
 /// Whether an entry closes the request or attempt of a number.
-fn closes(event: &Event, reply: Reply, number: u64) -> bool
+pub fn closes(event: &Event, reply: Reply, number: u64) -> bool
     ensures { result ≡ requests.closes event.now reply number }
 {
     match event {

@@ -11,7 +11,7 @@ abbrev pub daemon : Settings → ℕ → ℕ → List Entry → Daemon
 daemon s next floor entries = record { settings = s; next = next; floor = floor; past = reverse entries }
 
 abbrev pub daemon_of : Settings → OpenJournal → Daemon
-daemon_of s o = daemon s o.next o.floor o.entries
+daemon_of s o = daemon s o.next o.floor o.entries.items
 
 -- rows open this journal
 abbrev pub Opens : List Row → OpenJournal → Type 0

@@ -8,7 +8,7 @@ ghost use Rattle.sd_keeping.specs.Opening as opening;
 use crate::readings::{least_moment, next_number};
 use crate::row_rules::{row_moment, row_number};
 use sd_base::{Copied, Memory};
-use sd_rules::{Entry, Event, Journal, Reply, Row, Rows};
+use sd_rules::{Entry, Event, Reply, Row, Rows};
 use std::alloc::Global;
 
 /// A journal as it is opened: the number that its next entry has, the least moment that it has, in seconds, and its entries.
@@ -16,7 +16,7 @@ use std::alloc::Global;
 pub struct OpenJournal {
     pub next: u64,
     pub floor: u64,
-    pub entries: Journal,
+    pub entries: Vec<Entry>,
 }
 
 /// The entry that a row stands for.
@@ -31,10 +31,10 @@ fn kept_entry(row: Row) -> Entry
     }
 }
 
-fn kept_entries(alloc: Global, rows: &[Row]) -> Result<Journal, Memory>
-    ensures { IfOk result (λ entries. entries ≡ map kept.kept_entry rows.now) }
+fn kept_entries(alloc: Global, rows: &[Row]) -> Result<Vec<Entry>, Memory>
+    ensures { IfOk result (λ entries. entries.items ≡ map kept.kept_entry rows.now) }
 {
-    let mut entries = Journal::new(alloc);
+    let mut entries = Vec::new(alloc);
     for row in rows {
         entries.push(kept_entry(row.copy()?))?;
     }
@@ -49,7 +49,7 @@ pub fn opened(alloc: Global, rows: &Rows) -> Result<OpenJournal, Memory>
         [] => Ok(OpenJournal {
             next: 1,
             floor: 0,
-            entries: Journal::new(alloc),
+            entries: Vec::new(alloc),
         }),
         [head, others @ ..] => Ok(OpenJournal {
             next: row_number(head),
@@ -89,10 +89,10 @@ fn settled(entry: &Entry) -> Result<Entry, Memory>
     Ok(made)
 }
 
-fn settled_entries(alloc: Global, entries: &[Entry]) -> Result<Journal, Memory>
-    ensures { IfOk result (λ made. reverse made ≡ kept.settled_past (reverse entries.now)) }
+fn settled_entries(alloc: Global, entries: &[Entry]) -> Result<Vec<Entry>, Memory>
+    ensures { IfOk result (λ made. reverse made.items ≡ kept.settled_past (reverse entries.now)) }
 {
-    let mut made = Journal::new(alloc);
+    let mut made = Vec::new(alloc);
     for place in 0..entries.len() {
         let entry = &entries[place];
         if !ends_with_daemon(&entry.event) {

@@ -6,7 +6,7 @@ ghost use Rattle.sd_rules.specs.Needed as needed;
 ghost use Rattle.sd_rules.specs.Steps as steps;
 
 use sd_base::Text;
-use sd_needs::readings::{accepts, wrongs};
+use sd_journal::logins::{accepts, wrongs};
 use sd_rules::{Entry, Event, Hash, LoginResult, Row};
 
 /// Whether the next entry has a number of 64 bits, as it has wherever a core has room for one.

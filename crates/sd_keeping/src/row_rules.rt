@@ -81,7 +81,8 @@ fn is_of_kind(found: &Record, key: &Key) -> bool
     }
 }
 
-fn is_answer_of_kind(answered: &Answered, key: &Key) -> bool
+/// Whether what was answered is absence, or a record of the kind that a key asks for.
+pub fn is_answer_of_kind(answered: &Answered, key: &Key) -> bool
     ensures { result ≡ keyed.is_answer_of_kind answered.now key.now }
 {
     match answered {

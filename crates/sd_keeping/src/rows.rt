@@ -10,12 +10,12 @@ ghost use Rattle.sd_keeping.specs.Opening as opening;
 
 use crate::readings::{hash_of_event, last_wrong, least_moment, next_number, wrong_count};
 use sd_base::{Copied, Memory, Text};
-use sd_journal::logins::{Login, hash_entry, last_online_login};
-use sd_journal::past::{Standing, is_voided};
+use sd_journal::logins::{Login, hash_entry, last_online_login, wrongs};
+use sd_journal::past::{Standing, answer_in, is_voided};
 use sd_needs::answers::is_newest_of_some;
-use sd_needs::readings::{answer_in, is_login, is_number, user_guessed, user_logged_in, wrongs};
+use sd_needs::readings::{is_login, is_number, user_guessed, user_logged_in};
 use sd_needs::servers::last_fall;
-use sd_rules::{Entry, Event, Hash, Journal, Row, Rows};
+use sd_rules::{Entry, Event, Hash, Row, Rows};
 use std::alloc::Global;
 
 /// The version of the rows that are made.
@@ -183,12 +183,11 @@ fn rows_behind(alloc: Global, head: Row, all: &[Entry]) -> Result<Rows, Memory>
 /// The rows that are kept of a journal, whose next entry has at least the number `next` and a moment, in seconds, of at least
 /// `floor`. The next number and each user's count of wrong guesses fit into rows: `numbers_fit` and `counts_fit` test it, and a
 /// journal that opened rows reach meets it.
-pub fn rows_of(alloc: Global, next: u64, floor: u64, journal: &Journal) -> Result<Rows, Memory>
-    requires numbers { steps.number_after next (reverse journal.now) < 2 ^ 64 }
-    requires guesses { counts.HasCounts (reverse journal.now) }
-    ensures { IfOk result (λ rows. opening.Keeps next floor journal.now rows) }
+pub fn rows_of(alloc: Global, next: u64, floor: u64, entries: &[Entry]) -> Result<Rows, Memory>
+    requires numbers { steps.number_after next (reverse entries.now) < 2 ^ 64 }
+    requires guesses { counts.HasCounts (reverse entries.now) }
+    ensures { IfOk result (λ rows. opening.Keeps next floor entries.now rows) }
 {
-    let entries = journal.items();
     let head = Row::Head(
         VERSION,
         next_number(next, entries),

@@ -193,7 +193,7 @@ fn kept(alloc: Global, journal: &Journal) -> Result<Rows, Memory> {
     if !counts_fit(journal.items()) {
         return Err(Memory);
     }
-    rows_of(alloc, 1, 0, journal)
+    rows_of(alloc, 1, 0, journal.items())
 }
 
 #[test]
@@ -228,12 +228,12 @@ fn journals_are_opened_with_rows(rt: HostRuntime) -> Result<(), Fail> {
             == OpenJournal {
                 next: 1,
                 floor: 0,
-                entries: Journal::new(alloc)
+                entries: Vec::new(alloc)
             }
     );
 
     let journal = opened(alloc, &two(alloc, Row::Head(2, 9, 5), absent(3, 4))?)?;
-    let mut entries = Journal::new(alloc);
+    let mut entries = Vec::new(alloc);
     entries.push(Entry {
         number: 3,
         moment: 4,
@@ -259,8 +259,13 @@ fn a_restart_closes_what_is_open(rt: HostRuntime) -> Result<(), Fail> {
     add(&mut journal, 2, Event::Offline, Reply::Done)?;
     assert!(rt; numbers_fit(1, journal.items()));
     let journal = reopened(alloc, 1, 0, journal.items())?;
-    let mut entries = Journal::new(alloc);
-    add(&mut entries, 1, Event::Ask(Key::Uid(7)), Reply::Done)?;
+    let mut entries = Vec::new(alloc);
+    entries.push(Entry {
+        number: 1,
+        moment: 0,
+        event: Event::Ask(Key::Uid(7)),
+        reply: Reply::Done,
+    })?;
     assert!(rt;
         journal
             == OpenJournal {

@@ -1,4 +1,4 @@
-// How much text a kept row holds, in bytes, with eight more for each text. A sum past the greatest u64 stands still there.
+// How much text a kept row, or a part of it, holds, in bytes, with eight more for each text. A sum past the greatest u64 stands still there.
 ghost use Rattle.std.specs.Prelude.{◌≡◌, ◌+◌, ◌-◌, ◌^◌, min, sum_by};
 ghost use Rattle.sd_rules.specs.TextBytes as bytes;
 
@@ -10,7 +10,8 @@ use sd_rules::{
 /// What each text counts for beside its bytes.
 const TEXT_OVERHEAD: u64 = 8;
 
-fn of_text(text: &Text) -> u64
+/// The bytes of a text, and eight more.
+pub fn of_text(text: &Text) -> u64
     ensures { result ≡ min (bytes.bytes_of_text text.now) (2 ^ 64 - 1) }
 {
     (text.bytes().len() as u64).saturating_add(TEXT_OVERHEAD)
@@ -101,7 +102,8 @@ fn of_record(found: &Record) -> u64
     }
 }
 
-fn of_answered(answered: &Answered) -> u64
+/// The text bytes of what was answered.
+pub fn of_answered(answered: &Answered) -> u64
     ensures { result ≡ min (bytes.bytes_of_answered answered.now) (2 ^ 64 - 1) }
 {
     match answered {
@@ -110,7 +112,8 @@ fn of_answered(answered: &Answered) -> u64
     }
 }
 
-fn of_key(key: &Key) -> u64
+/// The text bytes of a key.
+pub fn of_key(key: &Key) -> u64
     ensures { result ≡ min (bytes.bytes_of_key key.now) (2 ^ 64 - 1) }
 {
     match key {

@@ -8,9 +8,8 @@ ghost use Rattle.sd_rules.specs.Past as past;
 ghost use Rattle.sd_journal.specs.Seen as seen;
 ghost use Rattle.sd_needs.specs.Places as places;
 
-use crate::readings::answer_in;
 use sd_base::Text;
-use sd_journal::past::{Standing, newest};
+use sd_journal::past::{Standing, answer_in, newest};
 use sd_rules::{Answered, Entry, Key, Record};
 
 /// A key that names a user or a group, by a name that it need not own.

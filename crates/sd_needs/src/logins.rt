@@ -3,9 +3,9 @@ ghost use Rattle.std.specs.Prelude.{◌≡◌, reverse};
 ghost use Rattle.std.specs.Option.{option_copied};
 ghost use Rattle.sd_rules.specs.Needed as needed;
 
-use crate::readings::{accepts, is_login, wrongs};
+use crate::readings::is_login;
 use sd_base::Text;
-use sd_journal::logins::{hash_entry, last_online_login};
+use sd_journal::logins::{accepts, hash_entry, last_online_login, wrongs};
 use sd_rules::Entry;
 
 /// Whether the entry of a number is the hash entry or the last online login of a user, where there is a user.

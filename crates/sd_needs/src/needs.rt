@@ -178,10 +178,9 @@ fn is_entry_needed(all: &[Entry], before: &[Entry], entry: &Entry) -> bool
 }
 
 /// Whether the entry at a place, counted from 0, is needed. It takes no memory; there is no entry past the end.
-pub fn is_needed(journal: &Journal, place: usize) -> bool
-    ensures { result ≡ places.is_needed_at journal.now place }
+pub fn is_needed(entries: &[Entry], place: usize) -> bool
+    ensures { result ≡ places.is_needed_at entries.now place }
 {
-    let entries = journal.items();
     match entries.get(place) {
         Some(entry) => is_entry_needed(entries, &entries[..place], entry),
         None => false,
@@ -189,10 +188,9 @@ pub fn is_needed(journal: &Journal, place: usize) -> bool
 }
 
 /// The entries that a forget keeps, in order.
-pub fn needed(alloc: Global, journal: &Journal) -> Result<Journal, Memory>
-    ensures { IfOk result (λ kept. reverse kept ≡ needed.needed (reverse journal.now)) }
+pub fn needed(alloc: Global, entries: &[Entry]) -> Result<Journal, Memory>
+    ensures { IfOk result (λ kept. reverse kept ≡ needed.needed (reverse entries.now)) }
 {
-    let entries = journal.items();
     let mut kept = Journal::new(alloc);
     for place in 0..entries.len() {
         let entry = &entries[place];
@@ -204,10 +202,9 @@ pub fn needed(alloc: Global, journal: &Journal) -> Result<Journal, Memory>
 }
 
 /// The entries that a forget hands back, in order.
-pub fn forgotten(alloc: Global, journal: &Journal) -> Result<Journal, Memory>
-    ensures { IfOk result (λ dropped. reverse dropped ≡ needed.forgotten (reverse journal.now)) }
+pub fn forgotten(alloc: Global, entries: &[Entry]) -> Result<Journal, Memory>
+    ensures { IfOk result (λ dropped. reverse dropped ≡ needed.forgotten (reverse entries.now)) }
 {
-    let entries = journal.items();
     let mut dropped = Journal::new(alloc);
     for place in 0..entries.len() {
         let entry = &entries[place];

@@ -181,14 +181,17 @@ fn compare(
     kept: &[u64],
     dropped: &[u64],
 ) -> Result<(), Fail> {
-    let (needed, forgotten) = (needed(alloc, journal)?, forgotten(alloc, journal)?);
+    let (needed, forgotten) = (
+        needed(alloc, journal.items())?,
+        forgotten(alloc, journal.items())?,
+    );
     assert!(rt; has_numbers(&needed, kept));
     assert!(rt; has_numbers(&forgotten, dropped));
     for (place, entry) in journal.items().iter().enumerate() {
         let is_kept = kept.contains(&entry.number);
-        assert!(rt; is_needed(journal, place) == is_kept, "{place}");
+        assert!(rt; is_needed(journal.items(), place) == is_kept, "{place}");
     }
-    assert!(rt; !is_needed(journal, journal.len()));
+    assert!(rt; !is_needed(journal.items(), journal.len()));
     Ok(())
 }
 

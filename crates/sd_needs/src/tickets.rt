@@ -7,22 +7,8 @@ ghost use Rattle.sd_rules.specs.Requests as requests;
 ghost use Rattle.sd_needs.specs.Looks as looks;
 
 use crate::readings::is_number;
-use sd_journal::past::{is_closed, is_shut};
-use sd_journal::requests::{is_try_accepted, outcome_of, waits_for};
-use sd_rules::{Entry, Event, Outcome, Reply};
-
-/// Whether an entry closes the request or attempt of a number.
-fn closes(event: &Event, reply: Reply, number: u64) -> bool
-    ensures { result ≡ requests.closes event.now reply number }
-{
-    match event {
-        Event::Answer(n, _) | Event::Refuse(n, _) | Event::Abandon(n) | Event::LoginOnline(n, _) =>
-            *n == number && is_closed(reply),
-        Event::Outage(n) => *n == number && (is_closed(reply) || is_shut(reply)),
-        Event::LoginTry(n, _, _) => *n == number && is_try_accepted(reply),
-        _ => false,
-    }
-}
+use sd_journal::requests::{closes, outcome_of, waits_for};
+use sd_rules::{Entry, Outcome, Reply};
 
 /// The number of the entry that closed a request.
 fn closing_of(entries: &[Entry], request: u64) -> Option<u64>

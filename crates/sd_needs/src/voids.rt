@@ -6,10 +6,10 @@ ghost use Rattle.sd_rules.specs.Needed as needed;
 ghost use Rattle.sd_journal.specs.Seen as seen;
 
 use crate::answers::is_newest_answer;
-use crate::readings::{answer_in, is_number};
+use crate::readings::is_number;
 use crate::requests::is_after_asking;
 use sd_journal::keys::covers;
-use sd_journal::past::Standing;
+use sd_journal::past::{Standing, answer_in};
 use sd_rules::{Entry, Event, What};
 
 /// Whether two invalidations name the same.

@@ -24,7 +24,7 @@ use sd_core::Core;
 use sd_directory::{dn_of, group_entry, host_entry, rule_entry, service_entry, user_entry};
 use sd_ldap::DirEntry;
 use sd_lines::{Kind, Line};
-use sd_rules::{Entry, Event, Key, What};
+use sd_rules::{Entry, Event, Key, Rows, Settings, What};
 use sd_wire::fields::{push_bytes, push_numbered};
 use sd_wire::push_entry;
 use std::alloc::Global;
@@ -92,6 +92,17 @@ fn first_ready(core: &Core, clients: &[Client]) -> usize
     clients.len()
 }
 
+/// A core without entries.
+fn open_core(alloc: Global, settings: Settings) -> Result<Core, Memory>
+    requires { settings.primaries + settings.backups ≤ 64 }
+    ensures { IfOk result (λ core. core ≡ record { settings = settings; next = 1; floor = 0; past = [] }) }
+{
+    match Core::open(alloc, settings, Rows::new(alloc)) {
+        Ok(core) => Ok(core),
+        Err(_) => Err(Memory),
+    }
+}
+
 impl World {
     #[tactic(auto, using(crate::proofs::KnownLaws::none_known))]
     /// Where a scenario of this configuration begins.
@@ -103,7 +114,7 @@ impl World {
         let settings = config.settings.copy()?;
         Ok(World {
             alloc,
-            core: Core::open(alloc, settings),
+            core: open_core(alloc, settings)?,
             site: Site::new(alloc, config),
             clients: Vec::new(alloc),
             limit,
@@ -335,7 +346,7 @@ impl World {
     fn print_journal(&mut self) -> Result<(), Memory>
         ensures { OnOk result (self.new ≡ script.journal_printed self.old) }
     {
-        push_journal(self.alloc, &mut self.out, self.core.journal().items())
+        push_journal(self.alloc, &mut self.out, self.core.journal())
     }
 
     /// An event happens, which any journal takes.

@@ -7,5 +7,5 @@ use Rattle.sd_core.proofs.plain.PlainCore.lacks_numbers.Goals as goal
 
 pub returns-else-last-next : goal.returns-else-last-next
 returns-else-last-next c =
-    let kept = ap (λ (es : List Entry). length es) c.items-entries.ensures ∙ sym (length-reverse c.self.inside.entries) ∙ ap (λ (d : Daemon). length d.past) c.self.view_is in
+    let kept = ap (λ (es : List Entry). length es) c.as_slice-entries.ensures.value ∙ sym (length-reverse c.self.inside.entries.items) ∙ ap (λ (d : Daemon). length d.past) c.self.view_is in
     numbers_left _ _ _ c.args.self.now c.from-last.ensures (c.from-next.ensures ∙ c.next_number.ensures) kept c.if-last-next.false
