@@ -1,6 +1,7 @@
 /* client KIND PLACE COMMAND: asks for users by name and measures, in one way whatever is asked.
  *
- *   KIND PLACE   `frames SOCKET`: a daemon by its frames; `module FILE`: an NSS module, by its getpwnam_r
+ *   KIND PLACE   `frames SOCKET`: a daemon by its frames; `module FILE`: an NSS module, by its getpwnam_r;
+ *                `libc -`: the C library, which asks the daemon nscd where its socket is
  *   COMMAND      `loop CLIENTS SECONDS PREFIX COUNT`   each client asks again and again for PREFIX and a number below COUNT
  *                `each PREFIX FROM COUNT`              one client asks for so many names, one after the other
  *                `burst CLIENTS NAME`                  all clients ask for one name at once
@@ -46,7 +47,7 @@ struct shared {
 typedef enum nss_status lookup(const char *, struct passwd *, char *, size_t, int *);
 
 static const char *place;
-static bool by_frames;
+static enum { FRAMES, MODULE, LIBC } kind;
 static lookup *ask_module;
 static int connection = -1;
 
@@ -104,9 +105,9 @@ static void open_module(void)
 
 static void open_place(void)
 {
-    if (by_frames)
+    if (kind == FRAMES)
         connect_to_place();
-    else
+    else if (kind == MODULE)
         open_module();
 }
 
@@ -149,10 +150,18 @@ static bool ask_by_frame(const char *name)
 static bool ask(const char *name)
 {
     static char buffer[ROOM];
-    struct passwd user;
+    struct passwd user, *found = NULL;
     int fault;
 
-    return by_frames ? ask_by_frame(name) : ask_module(name, &user, buffer, sizeof buffer, &fault) == NSS_STATUS_SUCCESS;
+    switch (kind) {
+    case FRAMES:
+        return ask_by_frame(name);
+    case MODULE:
+        return ask_module(name, &user, buffer, sizeof buffer, &fault) == NSS_STATUS_SUCCESS;
+    case LIBC:
+        return getpwnam_r(name, &user, buffer, sizeof buffer, &found) == 0 && found != NULL;
+    }
+    return false;
 }
 
 static int cell_of(uint64_t time)
@@ -295,7 +304,7 @@ static int ask_first(const char *name)
 {
     uint64_t end = now() + 30000000000u;
 
-    if (!by_frames)
+    if (kind == MODULE)
         open_module();
     do {
         if (ask(name)) {
@@ -314,7 +323,7 @@ int main(int count, char **words)
 
     alarm(SECONDS_AT_MOST);
     if (count > 3) {
-        by_frames = strcmp(words[1], "frames") == 0;
+        kind = strcmp(words[1], "frames") == 0 ? FRAMES : strcmp(words[1], "module") == 0 ? MODULE : LIBC;
         place = words[2];
         words += 4;
     }
@@ -326,6 +335,6 @@ int main(int count, char **words)
         return run_clients(atoi(words[0]), 0, words[1], 1);
     if (strcmp(command, "first") == 0 && left == 1)
         return ask_first(words[0]);
-    fprintf(stderr, "client frames SOCKET|module FILE loop|each|burst|first ..\n");
+    fprintf(stderr, "client frames SOCKET|module FILE|libc - loop|each|burst|first ..\n");
     return 2;
 }
