@@ -9,5 +9,4 @@ pub mod Pigeons
 pub mod Tables
 pub mod Calls
 pub mod Walk
-pub mod Pieces
 pub mod Statuses

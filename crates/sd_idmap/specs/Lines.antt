@@ -1,7 +1,9 @@
 -- Which lines have a form.
-use Rattle.std.specs.Prelude.{ℕ, ◌+◌, ◌-◌, ◌*◌, ◌^◌, Bool, true, false, ◌&&◌, ◌==◌, not, nat_le, if◌then◌else◌, List, [], ◌∷◌, codes, fold, Option, Some, None}
-use Rattle.std.specs.List.{slice_split, list_all}
+use Rattle.std.specs.Prelude.{ℕ, ◌+◌, ◌-◌, ◌^◌, Bool, true, false, ◌&&◌, ◌==◌, not, nat_le, if◌then◌else◌, List, [], ◌∷◌, codes, Option, Some, None}
+use Rattle.std.specs.List.{list_all}
 use Rattle.std.specs.Cmp.Lexicographic.{pointwise}
+use Rattle.sd_pieces.specs.Pieces.{cut_of, pieces, pieces_in}
+use Rattle.sd_pieces.specs.Digits.{value_of}
 use Rattle.sd_idmap.specs.declared.sids.Sid.{Sid}
 use Rattle.sd_idmap.specs.declared.lines.Line.{Line}
 use Rattle.sd_idmap.specs.declared.lines.Line.TheVariants as kinds
@@ -10,21 +12,11 @@ use Rattle.sd_idmap.specs.Reading.{is_digit, sid_in}
 
 -- the lines, without the line feeds that end them
 abbrev pub lines_of : List ℕ → List (List ℕ)
-lines_of text = slice_split (λ b. b == 10) text
+lines_of text = pieces 10 text
 
 -- the lines of what is left, where something is
 abbrev pub lines_in : Option (List ℕ) → List (List ℕ)
-lines_in None = []
-lines_in (Some bytes) = lines_of bytes
-
--- the bytes before the first that parts, and those after it, where there is one
-abbrev pub cut_of : ℕ → List ℕ → List ℕ × Option (List ℕ)
-cut_of by [] = ([], None)
-cut_of by (b ∷ bs) = if b == by then ([], Some bs) else (b ∷ (cut_of by bs).0, (cut_of by bs).1)
-
--- the number that digits stand for
-abbrev pub value_of : List ℕ → ℕ
-value_of digits = fold (λ n b. 10 * n + (b - 48)) 0 digits
+lines_in rest = pieces_in 10 rest
 
 -- digits of which the first is 0 only where it stands alone
 abbrev pub is_canonical : List ℕ → Bool

@@ -1,5 +1,5 @@
 // The lines of the input, each by itself.
-ghost use Rattle.std.specs.Prelude.{◌≡◌, ℕ, ◌<◌, ◌≤◌, ◌^◌, ◌-◌, ◌+◌, ◌==◌, ◌∷◌, min, length, IfOk, IfSome, true};
+ghost use Rattle.std.specs.Prelude.{◌≡◌, ℕ, ◌<◌, ◌≤◌, ◌^◌, ◌-◌, ◌+◌, ◌==◌, ◌∷◌, length, IfOk, IfSome, true};
 ghost use Rattle.std.specs.List.{list_all};
 ghost use Rattle.std.specs.Option.{option_copied};
 ghost use Rattle.sd_idmap.specs.Lines as lines;
@@ -8,6 +8,7 @@ ghost use Rattle.sd_idmap.specs.Reading as reading;
 use crate::reading::{SidFault, is_digit, read_sid};
 use crate::sids::Sid;
 use sd_base::Memory;
+use sd_pieces::{cut, value_of};
 use std::alloc::Global;
 
 /// What a line asks for.
@@ -25,24 +26,12 @@ pub enum Line {
     Bad,
 }
 
-/// What stands before the first byte that parts, and what stands behind it.
-fn cut_at_first(by: u8, bytes: &[u8]) -> (&[u8], Option<&[u8]>)
-    ensures { (result.0.now, option_copied result.1) ≡ lines.cut_of by bytes.now }
-{
-    for (at, byte) in bytes.iter().enumerate() {
-        if *byte == by {
-            return (&bytes[..at], Some(&bytes[at + 1..]));
-        }
-    }
-    (bytes, None)
-}
-
 /// The first line of some bytes, and what comes behind it, where there is more.
 pub fn cut_line(bytes: &[u8]) -> (&[u8], Option<&[u8]>)
     ensures pieces { lines.lines_of bytes.now ≡ result.0.now ∷ lines.lines_in (option_copied result.1) }
     ensures shorter { IfSome (option_copied result.1) (λ rest. length rest < length bytes.now) }
 {
-    cut_at_first(b'\n', bytes)
+    cut(b'\n', bytes)
 }
 
 fn are_digits(word: &[u8]) -> bool
@@ -62,19 +51,6 @@ fn is_canonical(word: &[u8]) -> bool
     }
 }
 
-/// The value of digits, or the greatest u64 where it is more.
-fn value_of(word: &[u8]) -> u64
-    ensures { result ≡ min (lines.value_of word.now) (2 ^ 64 - 1) }
-{
-    let mut value = 0u64;
-    for byte in word {
-        value = value
-            .saturating_mul(10)
-            .saturating_add(u64::from(byte.saturating_sub(b'0')));
-    }
-    value
-}
-
 /// A number of 32 bits in decimal, without a sign or a leading zero.
 fn number_of(word: &[u8]) -> Option<u32>
     ensures { result ≡ lines.number_of word.now }
@@ -83,7 +59,7 @@ fn number_of(word: &[u8]) -> Option<u32>
         return None;
     }
     let value = value_of(word);
-    if value <= u64::from(u32::MAX) {
+    if value <= u128::from(u32::MAX) {
         Some(value as u32)
     } else {
         None
@@ -172,7 +148,7 @@ pub fn line_of(alloc: Global, line: &[u8]) -> Result<Line, Memory>
     if is_skipped(line) {
         return Ok(Line::Skipped);
     }
-    match cut_at_first(b' ', line) {
+    match cut(b' ', line) {
         (word, Some(rest)) => form(alloc, word, rest),
         (_word, None) => Ok(Line::Bad),
     }
