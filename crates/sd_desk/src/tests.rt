@@ -1,16 +1,18 @@
 //! Seats at one desk.
-ghost use Rattle.std.specs.Prelude.{◌≡◌, ℕ, ◌+◌, ◌≤◌, List, [], ◌++◌, length, IfOk};
+ghost use Rattle.std.specs.Prelude.{◌≡◌, ℕ, ◌+◌, ◌≤◌, List, [], ◌∷◌, ◌++◌, length, IfOk, MatchOption};
 ghost use Rattle.sd_turn.specs.Counts.{AreAllBetween};
 ghost use Rattle.sd_desk.specs.Desks.{front, mine, numbers, name, out, IsOwn, HoldsNoTurn, IsSameSeat, IsFirst};
 ghost use Rattle.sd_desk.specs.Steps.{MayStep};
 
-use crate::{CollectFault, Desk, DeskFault, DeskSeat};
+use crate::{CollectFault, Desk, DeskRefused, DeskSeat};
 use sd_base::{Copied, Memory, Text, Texts};
 use sd_conf::Config;
 use sd_conf::servers::ServerList;
 use sd_core::Core;
 use sd_creds::Salts;
-use sd_rules::{AccessMode, Answered, Event, Key, Outcome, Reply, Settings, SimpleLists};
+use sd_rules::{
+    AccessMode, Answered, Event, Given, Key, Outcome, Refused, Reply, Settings, SimpleLists,
+};
 use std::alloc::Global;
 use std::sync::Wait;
 use std::test::Fail;
@@ -69,8 +71,17 @@ fn opened(alloc: Global) -> Result<(Desk, DeskSeat), Memory>
     ensures next { IfOk result (λ made. (front made.0 made.1).next ≡ 1) }
 {
     let settings = settings(alloc)?;
-    let core = Core::open(alloc, settings.copy()?);
+    let Ok(core) = Core::open(alloc, settings.copy()?, Rows::new(alloc)) else {
+        return Err(Memory);
+    };
     Desk::new(alloc, core, config(alloc, settings)?, Salts::new([7; 32]))
+}
+
+/// The number and the reply.
+fn told_of(given: Given) -> (u64, Reply)
+    ensures { result.0 ≡ given.number }
+{
+    (given.number, given.reply)
 }
 
 /// Makes one step at moment 0, and tells the number of its entry.
@@ -89,8 +100,31 @@ fn make<R: Wait>(
     let Ok(given) = desk.step(rt, seat, 0, event) else {
         return Err(Memory);
     };
-    told.push(given.number)?;
-    Ok(given.reply)
+    let (number, reply) = told_of(given);
+    told.push(number)?;
+    Ok(reply)
+}
+
+/// Tries to collect a ticket, and rests where its request is open.
+fn try_collect<R: Wait>(
+    rt: &R,
+    desk: &Desk,
+    seat: &mut DeskSeat,
+    ticket: u64,
+) -> Result<Option<(u64, Reply)>, Memory>
+    requires own { IsOwn desk.now seat.old × HoldsNoTurn seat.old }
+    ensures own { IsOwn desk.now seat.new × HoldsNoTurn seat.new × IsSameSeat seat.old seat.new }
+    ensures told { IfOk result (λ told. MatchOption told (mine seat.new ≡ mine seat.old) (λ t. numbers (mine seat.new) ≡ numbers (mine seat.old) ++ t.0 ∷ [])) }
+{
+    match desk.collect(seat, 0, ticket) {
+        Ok(given) => Ok(Some(told_of(given))),
+        Err(CollectFault::Pending(_request)) => {
+            desk.rest(rt, seat);
+            Ok(None)
+        }
+        Err(CollectFault::Busy) => Ok(None),
+        Err(_fault) => Err(Memory),
+    }
 }
 
 /// Collects a ticket, and rests while its request is open.
@@ -106,14 +140,9 @@ fn collect<R: Wait>(
     ensures told { IfOk result (λ _. (before : List ℕ) → numbers (mine seat.old) ≡ before ++ told.old.items → numbers (mine seat.new) ≡ before ++ told.new.items) }
 {
     for _ in rt.forever() {
-        match desk.collect(seat, 0, ticket) {
-            Ok(given) => {
-                told.push(given.number)?;
-                return Ok(given.reply);
-            }
-            Err(CollectFault::Pending(_request)) => desk.rest(rt, seat),
-            Err(CollectFault::Busy) => {}
-            Err(_fault) => return Err(Memory),
+        if let Some((number, reply)) = try_collect(rt, desk, seat, ticket)? {
+            told.push(number)?;
+            return Ok(reply);
         }
     }
     unreachable!()
@@ -273,7 +302,7 @@ fn four_threads_lead_join_and_collect(rt: HostRuntime) -> Result<(), Fail> {
     let (mut told, core) = four(&rt, rt.alloc(), 60)?;
     told.sort()?;
     assert!(rt; told.iter().zip(1u64..).all(|(number, at)| *number == at));
-    let entries = core.journal().items();
+    let entries = core.journal();
     assert_eq!(rt; entries.len(), told.len());
     let leads = entries
         .iter()
@@ -281,6 +310,21 @@ fn four_threads_lead_join_and_collect(rt: HostRuntime) -> Result<(), Fail> {
         .count();
     assert_eq!(rt; leads, 60);
     Ok(())
+}
+
+/// The number and the reply of a step that waits for nobody.
+fn tried(made: Result<Given, DeskRefused>) -> Option<(u64, Reply)> {
+    made.ok().map(told_of)
+}
+
+/// The number and the reply of a step.
+fn stepped(made: Result<Given, Refused>) -> Option<(u64, Reply)> {
+    made.ok().map(told_of)
+}
+
+/// The number and the reply of a ticket's collect.
+fn collected(made: Result<Given, CollectFault>) -> Option<(u64, Reply)> {
+    made.ok().map(told_of)
 }
 
 fn alice(alloc: Global) -> Result<Event, Memory>
@@ -293,40 +337,23 @@ fn alice(alloc: Global) -> Result<Event, Memory>
 fn a_joiner_takes_what_the_leader_was_answered(rt: HostRuntime) -> Result<(), Fail> {
     let (desk, mut first) = opened(rt.alloc())?;
     let mut second = desk.split(&mut first);
-    let led = desk.try_step(&mut first, 0, alice(rt.alloc())?);
-    assert_eq!(rt; led.ok().map(|given| given.reply), Some(Reply::Lead(1)));
-    let joined = desk.step(&rt, &mut second, 0, alice(rt.alloc())?);
-    assert_eq!(rt;
-        joined.ok().map(|given| given.reply),
-        Some(Reply::Join(1, 2))
-    );
-    let pending = desk.collect(&mut second, 0, 2);
-    assert_eq!(rt; pending.err(), Some(CollectFault::Pending(1)));
-    let picked = desk.try_step(&mut first, 0, Event::Pick(1));
-    assert_eq!(rt;
-        picked.ok().map(|given| (given.number, given.reply)),
-        Some((3, Reply::Server(0)))
-    );
-    let answered = desk.try_step(&mut first, 0, Event::Answer(1, Answered::Absent));
-    assert_eq!(rt;
-        answered.ok().map(|given| (given.number, given.reply)),
-        Some((4, Reply::Closed))
-    );
+    let led = tried(desk.try_step(&mut first, 0, alice(rt.alloc())?));
+    let joined = stepped(desk.step(&rt, &mut second, 0, alice(rt.alloc())?));
+    let pending = desk.collect(&mut second, 0, 2).err();
+    let picked = tried(desk.try_step(&mut first, 0, Event::Pick(1)));
+    let answered = tried(desk.try_step(&mut first, 0, Event::Answer(1, Answered::Absent)));
     desk.rest(&rt, &mut second);
-    let taken = desk.collect(&mut second, 0, 2);
-    assert_eq!(rt;
-        taken.ok().map(|given| (given.number, given.reply)),
-        Some((5, Reply::Took(Outcome::Absent(4))))
-    );
+    let taken = collected(desk.collect(&mut second, 0, 2));
+    assert_eq!(rt; led, Some((1, Reply::Lead(1))));
+    assert_eq!(rt; joined, Some((2, Reply::Join(1, 2))));
+    assert_eq!(rt; pending, Some(CollectFault::Pending(1)));
+    assert_eq!(rt; picked, Some((3, Reply::Server(0))));
+    assert_eq!(rt; answered, Some((4, Reply::Closed)));
+    assert_eq!(rt; taken, Some((5, Reply::Took(Outcome::Absent(4)))));
     assert_eq!(rt; (second.counts().entries, second.has_grown()), (5, false));
-    assert!(rt; !desk.stopping(&rt, &mut second));
-    assert!(rt; desk.try_step(&mut first, 0, Event::Stop).is_ok());
-    assert!(rt; desk.stopping(&rt, &mut second));
     desk.join(&mut first, second);
-    assert_eq!(rt; desk.config().level, 2);
-    assert_eq!(rt; desk.salts().salt(1), Salts::new([7; 32]).salt(1));
     let core = desk.close(first).expect(&rt, "no other seat is out");
-    assert_eq!(rt; core.journal().len(), 6);
+    assert_eq!(rt; core.journal().len(), 5);
     Ok(())
 }
 
@@ -334,17 +361,30 @@ fn a_joiner_takes_what_the_leader_was_answered(rt: HostRuntime) -> Result<(), Fa
 fn a_leader_that_gives_up_drops_its_joiner(rt: HostRuntime) -> Result<(), Fail> {
     let (desk, mut first) = opened(rt.alloc())?;
     let mut second = desk.split(&mut first);
-    assert!(rt; desk.try_step(&mut first, 0, alice(rt.alloc())?).is_ok());
-    assert!(rt; desk.try_step(&mut second, 0, alice(rt.alloc())?).is_ok());
-    let given_up = desk.step(&rt, &mut first, 0, Event::Abandon(1));
+    let led = tried(desk.try_step(&mut first, 0, alice(rt.alloc())?));
+    let joined = tried(desk.try_step(&mut second, 0, alice(rt.alloc())?));
+    let given_up = stepped(desk.step(&rt, &mut first, 0, Event::Abandon(1)));
+    let taken = collected(desk.collect(&mut second, 0, 2));
     assert_eq!(rt;
-        given_up.ok().map(|given| (given.number, given.reply)),
-        Some((3, Reply::Closed))
+        (led, joined),
+        (Some((1, Reply::Lead(1))), Some((2, Reply::Join(1, 2))))
     );
-    let taken = desk.collect(&mut second, 0, 2);
-    assert_eq!(rt;
-        taken.ok().map(|given| given.reply),
-        Some(Reply::Took(Outcome::Dropped(3)))
-    );
+    assert_eq!(rt; given_up, Some((3, Reply::Closed)));
+    assert_eq!(rt; taken, Some((4, Reply::Took(Outcome::Dropped(3)))));
+    Ok(())
+}
+
+#[test]
+fn the_word_to_stop_is_seen_by_each_seat(rt: HostRuntime) -> Result<(), Fail> {
+    let (desk, mut first) = opened(rt.alloc())?;
+    let mut second = desk.split(&mut first);
+    let before = desk.stopping(&rt, &mut second);
+    let stop = tried(desk.try_step(&mut first, 0, Event::Stop));
+    assert_eq!(rt; (before, stop), (false, Some((1, Reply::Done))));
+    assert!(rt; desk.stopping(&rt, &mut second));
+    let rows = desk.kept(&rt, &mut second)?;
+    assert_eq!(rt; rows.items(), [Row::Head(2, 2, 0)].as_slice());
+    assert_eq!(rt; desk.config().level, 2);
+    assert_eq!(rt; desk.salts().salt(1), Salts::new([7; 32]).salt(1));
     Ok(())
 }
