@@ -1,14 +1,18 @@
 #!/usr/bin/env python3
 """frame.py SOCKET WORD [TEXT..]: sends one request as the daemon's frames have it, and prints the reply.
 
-WORD is user, uid, group, gid, groups, login, access, void-all, offline, online or stop. After `stop` it connects
+WORD is user, uid, group, gid, groups, login, access, void-all, void-user, offline, online or stop. After `stop` it connects
 once more, so that a daemon which waits for a connection sees that it is to end."""
 import socket
 import struct
 import sys
 
 COMMANDS = {"user": 1, "uid": 2, "group": 3, "gid": 4, "groups": 5, "login": 16, "access": 17,
-            "void-all": 32, "offline": 33, "online": 34, "stop": 35}
+            "void-all": 32, "void-user": 32, "offline": 33, "online": 34, "stop": 35}
+
+
+# The byte that says what is to be void.
+KINDS = {"void-all": b"\0", "void-user": b"\1"}
 
 
 def field(word, text):
@@ -27,15 +31,18 @@ def exact(connection, count):
     return have
 
 
+def frame(word, *texts):
+    """The bytes of a request."""
+    body = bytes([COMMANDS[word]]) + KINDS.get(word, b"") + b"".join(field(word, text) for text in texts)
+    return struct.pack(">I", len(body)) + body
+
+
 def main():
     path, word, *texts = sys.argv[1:]
-    body = bytes([COMMANDS[word]]) + b"".join(field(word, text) for text in texts)
-    if word == "void-all":
-        body += b"\0"
     with socket.socket(socket.AF_UNIX) as connection:
         connection.settimeout(10)
         connection.connect(path)
-        connection.sendall(struct.pack(">I", len(body)) + body)
+        connection.sendall(frame(word, *texts))
         length = struct.unpack(">I", exact(connection, 4))[0]
         print(exact(connection, length).decode("utf-8", "replace"))
     if word == "stop":
@@ -43,4 +50,5 @@ def main():
             connection.connect_ex(path)
 
 
-main()
+if __name__ == "__main__":
+    main()

@@ -10,6 +10,7 @@ use crate::rows::print_rows;
 use crate::words::Words;
 use sd_base::{Copied, Memory};
 use sd_core::{Core, OpenFault, PlainCore};
+use sd_restart::restart;
 use sd_rules::{Event, Given, Refused, Rows, Settings, StepFault};
 use std::alloc::Global;
 
@@ -115,8 +116,10 @@ impl Cores {
 
     /// Opens both cores again with the rows that they keep, as a restart does.
     pub fn reopen(&mut self, alloc: Global) -> Result<(), OpenFault> {
+        let settings = few_servers(self.settings.copy()?);
         if let Some(rows) = kept(&self.core, &self.plain)? {
-            *self = Cores::open_with(alloc, self.settings.copy()?, rows)?;
+            self.plain = PlainCore::open(alloc, settings.copy()?, rows)?;
+            self.core = restart(alloc, &self.core, settings)?;
         }
         Ok(())
     }

@@ -1,7 +1,8 @@
 // Plays worked journals on both cores: standard input has settings and steps, standard output gets the entries that they make.
 //
-// A line `settings ..` begins a journal (settings.rt says what it holds); any other line is a step, as a journal prints it: the moment
-// handed in and the event. `kept` prints the rows that are kept, and `reopen` opens the cores again with them. Empty lines and lines that begin with `#` are printed as they stand.
+// A line `settings ..` begins a journal (settings.rt says what it holds), `kept` prints the rows that are kept, and `reopen` opens the
+// cores again with them, as a restart does. Any other line is a step, as a journal prints it: the moment handed in and the event. Empty
+// lines and lines that begin with `#` are printed as they stand.
 #![tactic(auto)]
 
 mod cores;

@@ -10,7 +10,7 @@ use Rattle.sd_rules.specs.Requests.{reserved_places}
 use Rattle.sd_rules.specs.Steps.{Daemon, recorded}
 use Rattle.sd_rules.specs.TextBytes.{bytes_of_event, bytes_of_row, text_bytes}
 use Rattle.sd_keeping.specs.Opening.{Keeps}
-use Rattle.sd_core.specs.Held.{daemon_of, IsHeld}
+use Rattle.sd_core.specs.Held.{daemon_of, with_entries, IsHeld}
 use Rattle.sd_core.specs.Laws.{IsKept}
 use Rattle.sd_core.specs.Sound.{falls_from, HasRoom, IsSound}
 use Rattle.sd_core.proofs.Room.{room_for_all, room_for_more, room_given_back}
@@ -100,3 +100,21 @@ kept_few (Err m) d h sound = tt
 pub kept_fit : {M : Type 0} (r : Result (List Row) M) (d : Daemon) → IfOk r (λ rs. rs ≡ rows_of d) → IsSound d → IfOk r (λ rs. sum_by bytes_of_row rs ≤ 512 * 1024 * 1024)
 kept_fit (Ok rs) d h sound = rows_fit d rs h sound
 kept_fit (Err m) d h sound = tt
+
+-- the parts of a core that holds other entries
+pub held_with : (d : Daemon) (s : Settings) (next floor texts : ℕ) (old entries : List Entry) (capacity : ℕ) → daemon_of s next floor old ≡ d →
+    texts ≡ min (text_bytes (reverse entries)) (2 ^ 64 - 1) → HasRoom (reverse entries) capacity → IsSound (with_entries d entries) → IsKept (with_entries d entries) →
+    IsHeld s next floor texts entries capacity
+held_with d s next floor texts old entries capacity is bytes has sound kept =
+    let here : IsSound (daemon_of s next floor entries) = subst (λ (x : Daemon). IsSound (with_entries x entries)) (sym is) sound in
+    record {
+      counted = all_counted texts (text_bytes (reverse entries)) bytes here.texts;
+      room = has;
+      sound = here;
+      kept = subst (λ (x : Daemon). IsKept (with_entries x entries)) (sym is) kept;
+    }
+
+pub room_if_made : {X M : Type 0} (items : X → List Entry) (capacity : X → ℕ) (r : Result X M) → IfOk r (λ made. 2 * length (items made) + 2 ≤ capacity made) →
+    IfOk r (λ made. HasRoom (reverse (items made)) (capacity made))
+room_if_made items capacity (Ok made) h = room_at_first (items made) (capacity made) h
+room_if_made items capacity (Err m) h = tt

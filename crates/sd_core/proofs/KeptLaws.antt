@@ -6,6 +6,7 @@ use Rattle.sd_rules.specs.declared.events.Event.{Event}
 use Rattle.sd_rules.specs.declared.replies.Given.{Given}
 use Rattle.sd_rules.specs.declared.replies.Refused.{Refused}
 use Rattle.sd_rules.specs.Steps.{Daemon, next_number, moment_of, entry_made, after, given, is_steppable}
+use Rattle.sd_forgetting.proofs.Orders.{orderly_after}
 use Rattle.sd_core.specs.Sound.{all_name_earlier, falls_from, last_moment, moments_rise, named_by, names_earlier}
 use Rattle.sd_core.specs.Laws.{KeepsOutcomes, FollowsLaws, IsKept, is_asked_since, are_asked_since, is_own_outage, are_own_outages}
 use Rattle.sd_core.proofs.Room.{next_is_above}
@@ -37,6 +38,7 @@ kept_after d now event h kept = record {
   moments = both_hold (nat_le (last_moment d.past) (moment_of d now)) (moments_rise d.past) (moment_rises d.floor now d.past) kept.moments;
   open_once = one_open_after d now event kept.open_once;
   tickets = tickets_after d now event kept.numbers kept.kinds h kept.tickets;
+  orderly = orderly_after d now event h kept.orderly;
 }
 
 follows_laws : (d : Daemon) (now : ℕ) (event : Event) → IsKept d → FollowsLaws d now event (given d now event)

@@ -17,10 +17,13 @@ use Rattle.sd_rules.specs.Past.{answer_in}
 use Rattle.sd_rules.specs.Requests.{unclosed, has_opened_request, has_opened_attempt, is_open, is_open_request, is_open_attempt, waits_for, reserves, reserved_among, reserved_places}
 use Rattle.sd_rules.specs.Steps.{Daemon}
 use Rattle.sd_rules.specs.TextBytes.{bytes_of_row, text_bytes}
+use Rattle.sd_forgetting.proofs.Opened.{rows_orderly}
+use Rattle.sd_forgetting.proofs.Orders.{orderly_first}
 use Rattle.sd_core.specs.Laws.{IsKept, are_asked_since, are_own_outages}
 use Rattle.sd_core.specs.Sound as sound
 use Rattle.sd_core.specs.Sound.{all_name_earlier, moments_rise, falls_from, holds_kind, holds_kinds, row_holders, closes_once, IsSound}
 use Rattle.sd_core.proofs.Room.{false_is_not_true, neither}
+use Rattle.sd_core.proofs.ForgetLaws.{same_falls, falls_if_rises}
 use Rattle.sd_core.proofs.KindLaws.{first_holds, second_holds, both_hold}
 
 -- the entries of rows, the newest first
@@ -310,6 +313,9 @@ kept_by s head rs good z = record {
     named_below = λ t r n w c is. absurd (nobody t r w);
     of_kind = λ t r k w c own. absurd (nobody t r w);
   };
+  orderly = rows_orderly (row_number head) (sound.last_moment (entries_of rs)) rs
+      (sym (same_falls (row_number head) (entries_of rs)) ∙ rows_fall head rs (row_number head) good (last_below head rs good z))
+      (falls_if_rises (sound.last_moment (entries_of rs)) (entries_of rs) (rows_moments head rs good) (omega arith));
 }
   where
     nobody : (t r : ℕ) → waits_for (entries_of rs) t ≡ Some r → ⊥
@@ -365,6 +371,7 @@ kept_at_first s [] h = record {
     named_below = λ t r n w c is. let clash : ⊥ = cc in absurd clash;
     of_kind = λ t r k w c own. refl;
   };
+  orderly = orderly_first 1;
 }
 kept_at_first s (head ∷ others) h =
     let good_head = good_row_by (is_good_head head) 0 (first_bad head [] 1 others) h in

@@ -11,6 +11,10 @@ use Rattle.sd_core.specs.Sound.{HasRoom, IsSound}
 abbrev pub daemon_of : Settings → ℕ → ℕ → List Entry → Daemon
 daemon_of s next floor entries = record { settings = s; next = next; floor = floor; past = reverse entries }
 
+-- a daemon with other entries, the oldest first
+abbrev pub with_entries : Daemon → List Entry → Daemon
+with_entries d entries = record d { past = reverse entries }
+
 -- the text bytes are counted, there is room for what closes what is open, and the journal is sound and kept
 pub record IsHeld (s : Settings) (next floor texts : ℕ) (entries : List Entry) (capacity : ℕ) : Type 0 where
   pub counted : texts ≡ text_bytes (reverse entries)

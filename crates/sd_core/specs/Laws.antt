@@ -29,6 +29,7 @@ use Rattle.sd_rules.specs.Answers.{timeout_of}
 use Rattle.sd_rules.specs.Logins.{wrong_count, last_wrong}
 use Rattle.sd_rules.specs.Access.{asker_of}
 use Rattle.sd_rules.specs.Steps.{Daemon, moment_of, record_in, event_at, event_named, answer_named_by_outcome, void_since}
+use Rattle.sd_forgetting.specs.Orderly.{IsOrderly}
 use Rattle.sd_hbac.specs.Grants.{Grants, NoneMatches}
 use Rattle.sd_core.specs.Sound.{falls_from, holds_kinds, is_of_kind_of, found_fits, all_name_earlier, moments_rise}
 
@@ -211,3 +212,4 @@ pub record IsKept (d : Daemon) : Type 0 where
   pub moments : moments_rise d.past ≡ true
   pub open_once : HasOneOpen d.past
   pub tickets : HasFitTickets d.next d.past
+  pub orderly : IsOrderly d.next d.past

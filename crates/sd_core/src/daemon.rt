@@ -1,9 +1,11 @@
 // The daemon's core, as the layers above use it.
 ghost use Rattle.std.specs.Prelude.{◌≡◌, ℕ, ◌+◌, ◌*◌, ◌^◌, ◌<◌, ◌≤◌, true, false, length, reverse, sum_by, None, IfOk, IfErr, IsOk, OnErr, OnOk};
 ghost use Rattle.sd_rules.specs.KeptRows as kept;
+ghost use Rattle.sd_rules.specs.Needed as needed;
 ghost use Rattle.sd_rules.specs.Reaching as reaching;
 ghost use Rattle.sd_rules.specs.Steps as steps;
 ghost use Rattle.sd_rules.specs.TextBytes as bytes;
+ghost use Rattle.sd_forgetting.specs.Kept as shown;
 ghost use Rattle.sd_core.specs.Growth as growth;
 ghost use Rattle.sd_core.specs.Laws as laws;
 ghost use Rattle.sd_core.specs.Looks as looks;
@@ -12,7 +14,7 @@ ghost use Rattle.sd_core.specs.Sound as sound;
 
 use crate::plain::{Look, OpenFault, PlainCore};
 use sd_base::Memory;
-use sd_rules::{Entry, Event, Given, Refused, Rows, Settings, StepFault};
+use sd_rules::{Entry, Event, Given, Journal, Refused, Rows, Settings, StepFault};
 use std::alloc::Global;
 use std::marker::Model;
 
@@ -59,6 +61,9 @@ impl Core {
         ensures rows { IfOk result (λ rows. rows ≡ kept.rows_of self.now) }
         ensures few { IfOk result (λ rows. length rows < 2 ^ 32) }
         ensures texts { IfOk result (λ rows. sum_by bytes.bytes_of_row rows ≤ 512 * 1024 * 1024) }
+
+        // Of a journal for which all laws hold.
+        ensures lawful { laws.IsKept self.now }
     {
         self.plain.kept()
     }
@@ -109,7 +114,23 @@ impl Core {
         // The journal grows by legal entries, whether the step is made or refused.
         ensures reached { reaching.Reaches self.old self.new }
         ensures legal { growth.KeepsGrown self.old self.new }
+        ensures part { growth.KeepsPart self.old self.new }
     {
         self.plain.step(now, event)
+    }
+
+    /// Forgets the entries that no later event can look at, and hands them back, the oldest first. For want of memory all are kept.
+    pub fn forget(&mut self) -> Result<Journal, Memory>
+        ensures forgotten { OnOk result (self.new ≡ reaching.after_forget self.old) }
+        ensures back { IfOk result (λ dropped. reverse dropped ≡ needed.forgotten self.old.past) }
+        ensures unchanged { OnErr result (self.new ≡ self.old) }
+
+        // Whether entries were forgotten or not.
+        ensures shown { shown.Keeps self.old self.new }
+        ensures kept { laws.IsKept self.new }
+        ensures reached { reaching.Reaches self.old self.new }
+        ensures part { growth.KeepsPart self.old self.new }
+    {
+        self.plain.forget()
     }
 }

@@ -1,9 +1,12 @@
 // The core, which answers from the list of its entries.
-ghost use Rattle.std.specs.Prelude.{◌≡◌, ◌↔◌, ℕ, ◌+◌, ◌-◌, ◌*◌, ◌^◌, ◌<◌, ◌≤◌, [], ◌∷◌, true, false, length, reverse, min, sum_by, None, IfOk, IfErr, IfSome, IsOk, IsSome, OnErr, OnOk};
+ghost use Rattle.std.specs.Prelude.{◌≡◌, ◌↔◌, ℕ, ◌+◌, ◌-◌, ◌*◌, ◌^◌, ◌<◌, ◌≤◌, [], ◌∷◌, true, false, length, reverse, min, sum_by, vec_capacity, None, IfOk, IfErr, IfSome, IsOk, IsSome, OnErr, OnOk};
 ghost use Rattle.sd_rules.specs.KeptRows as kept;
+ghost use Rattle.sd_rules.specs.Needed as needed;
+ghost use Rattle.sd_rules.specs.Reaching as reaching;
 ghost use Rattle.sd_rules.specs.Requests as requests;
 ghost use Rattle.sd_rules.specs.Steps as steps;
 ghost use Rattle.sd_rules.specs.TextBytes as bytes;
+ghost use Rattle.sd_core.specs.Held as held;
 ghost use Rattle.sd_core.specs.Laws as laws;
 ghost use Rattle.sd_core.specs.Looks as looks;
 ghost use Rattle.sd_core.specs.Opens as opens;
@@ -12,12 +15,13 @@ ghost use Rattle.sd_core.specs.declared.plain.OpenFault.TheVariants as faults;
 
 use crate::given::given_by;
 use crate::replies::{reply_to, reply_to_collect};
-use crate::spare::{make_room, put};
+use crate::spare::{make_room, needed_entries, put};
 use crate::text_bytes::{of_entries, of_event};
 use sd_base::Memory;
 use sd_journal::requests::{is_open, is_open_request, is_took, reserved_places, waits_for};
 use sd_keeping::{OpenJournal, bad_row, opened, rows_of};
-use sd_rules::{Entry, Event, Given, Refused, Rows, Settings, StepFault};
+use sd_needs::forgotten;
+use sd_rules::{Entry, Event, Given, Journal, Refused, Rows, Settings, StepFault};
 use std::alloc::Global;
 use std::marker::Model;
 
@@ -318,5 +322,28 @@ impl PlainCore {
                 event,
             }),
         }
+    }
+
+    /// Puts other entries in the place of all.
+    fn keep(&mut self, entries: Vec<Entry>)
+        requires room { sound.HasRoom (reverse entries.items) (vec_capacity entries) }
+        requires sound { sound.IsSound (held.with_entries self.old entries.items) }
+        requires kept { laws.IsKept (held.with_entries self.old entries.items) }
+        ensures { self.new ≡ held.with_entries self.old entries.items }
+    {
+        self.text_bytes = of_entries(entries.as_slice());
+        self.entries = entries;
+    }
+
+    /// Forgets the entries that no later event can look at, and hands them back, the oldest first. For want of memory all are kept.
+    pub fn forget(&mut self) -> Result<Journal, Memory>
+        ensures forgotten { OnOk result (self.new ≡ reaching.after_forget self.old) }
+        ensures back { IfOk result (λ dropped. reverse dropped ≡ needed.forgotten self.old.past) }
+        ensures unchanged { OnErr result (self.new ≡ self.old) }
+    {
+        let dropped = forgotten(self.alloc, self.entries.as_slice())?;
+        let kept = needed_entries(self.alloc, self.entries.as_slice())?;
+        self.keep(kept);
+        Ok(dropped)
     }
 }

@@ -1,12 +1,15 @@
 // Room for the entries that close what is open: it is taken when a number is opened or a ticket given.
-ghost use Rattle.std.specs.Prelude.{◌≡◌, ◌+◌, ◌*◌, ◌≤◌, [], ◌∷◌, ◌++◌, true, length, reverse, vec_capacity, IfErr, IsOk, OnOk};
+ghost use Rattle.std.specs.Prelude.{◌≡◌, ◌+◌, ◌*◌, ◌≤◌, [], ◌∷◌, ◌++◌, true, length, reverse, vec_capacity, IfErr, IfOk, IsOk, OnOk};
+ghost use Rattle.sd_rules.specs.Needed as needed;
 ghost use Rattle.sd_rules.specs.Requests as requests;
 ghost use Rattle.sd_core.specs.Laws as laws;
 ghost use Rattle.sd_core.specs.Sound as sound;
 
-use sd_base::Memory;
+use sd_base::{Copied, Memory};
 use sd_journal::requests::{is_open, waits_for};
+use sd_needs::needed;
 use sd_rules::{Entry, Event};
+use std::alloc::Global;
 
 /// Whether an event closes what is open or lets a ticket go.
 pub fn closes_place(entries: &[Entry], event: &Event) -> bool
@@ -51,4 +54,26 @@ pub fn put(entries: &mut Vec<Entry>, entry: Entry) -> Result<(), Event>
         }
         Err(_) => Err(entry.event),
     }
+}
+
+/// A copy of entries, with room for as many again and two more.
+fn copied(alloc: Global, entries: &[Entry]) -> Result<Vec<Entry>, Memory>
+    ensures same { IfOk result (λ made. made.items ≡ entries.now) }
+    ensures room { IfOk result (λ made. 2 * length made.items + 2 ≤ vec_capacity made) }
+{
+    let mut made = Vec::new(alloc);
+    for entry in entries {
+        made.push(entry.copy()?)?;
+    }
+    make_room(&mut made)?;
+    Ok(made)
+}
+
+/// The entries that a forget keeps, with room for those that close what is open.
+pub fn needed_entries(alloc: Global, entries: &[Entry]) -> Result<Vec<Entry>, Memory>
+    ensures same { IfOk result (λ made. reverse made.items ≡ needed.needed (reverse entries.now)) }
+    ensures room { IfOk result (λ made. sound.HasRoom (reverse made.items) (vec_capacity made)) }
+{
+    let kept = needed(alloc, entries)?;
+    copied(alloc, kept.items())
 }

@@ -1,7 +1,8 @@
 -- What the words behind `query SOCKET` ask.
 use Rattle.std.specs.Prelude.{ℕ, Bool, true, false, ◌&&◌, ◌==◌, ◌-◌, ◌^◌, not, codes, List, [], ◌∷◌, length, Option, Some, None, if◌then◌else◌}
 use Rattle.std.specs.Option.{option_map}
-use Rattle.sd_lines.specs.Words.{number_of, cut_of}
+use Rattle.sd_pieces.specs.Digits.{number_up_to}
+use Rattle.sd_pieces.specs.Pieces.{cut_of}
 use Rattle.sd_rules.specs.Keys.{same_name}
 use Rattle.sd_wire.specs.Frames.{is_name, is_sound}
 use Rattle.sd_wire.specs.declared.requests.Request.{Request}
@@ -16,7 +17,7 @@ has_leading_zero (b ∷ bs) = (b == 48) && not (length bs == 0)
 
 -- a number among the words: decimal digits without a sign and without a leading zero, that fit 32 bits
 abbrev pub id_of : List ℕ → Option ℕ
-id_of w = if has_leading_zero w then None else number_of (2 ^ 32 - 1) w
+id_of w = if has_leading_zero w then None else number_up_to (2 ^ 32 - 1) w
 
 -- a name among the words
 abbrev pub name_of : List ℕ → Option (List ℕ)

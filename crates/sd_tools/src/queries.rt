@@ -3,7 +3,7 @@ ghost use Rattle.std.specs.Prelude.{◌≡◌, map, string_bytes, IfOk, IfSome, 
 ghost use Rattle.sd_tools.specs.Queries as queries;
 
 use sd_base::{Memory, Text};
-use sd_lines::words::number_of;
+use sd_pieces::number_up_to;
 use sd_wire::Request;
 use sd_wire::requests::is_name;
 use std::alloc::Global;
@@ -33,7 +33,7 @@ fn id_of(word: &[u8]) -> Option<u32>
     if has_leading_zero(word) {
         return None;
     }
-    let Some(id) = number_of(u64::from(u32::MAX), word) else {
+    let Some(id) = number_up_to(u64::from(u32::MAX), word) else {
         return None;
     };
     Some(id as u32)

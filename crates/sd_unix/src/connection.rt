@@ -1,5 +1,5 @@
 //! What a client sends and is sent, with bounds on every wait.
-ghost use Rattle.std.specs.Prelude.{◌≡◌, None};
+ghost use Rattle.std.specs.Prelude.{◌≡◌, IfOk, None};
 ghost use Rattle.std.specs.Io.{ReadsAtMost};
 
 use crate::place::FramePlace;
@@ -41,7 +41,9 @@ fn wait_at(place: FramePlace) -> Duration {
 }
 
 impl ClientSource {
-    pub(crate) fn new(stream: UnixStream, visitor: Visitor) -> io::Result<ClientSource> {
+    pub(crate) fn new(stream: UnixStream, visitor: Visitor) -> io::Result<ClientSource>
+        ensures { IfOk result (λ source. ⟦<ClientSource as Source>⟧.faults source ≡ 0) }
+    {
         stream.set_read_timeout(Some(wait_at(FramePlace::Between)))?;
         Ok(ClientSource {
             stream,
@@ -100,7 +102,9 @@ pub struct ClientSink {
 }
 
 impl ClientSink {
-    pub(crate) fn new(stream: UnixStream) -> io::Result<ClientSink> {
+    pub(crate) fn new(stream: UnixStream) -> io::Result<ClientSink>
+        ensures { IfOk result (λ sink. ⟦<ClientSink as Sink>⟧.faults sink ≡ 0) }
+    {
         stream.set_write_timeout(Some(Duration::from_secs(STALL_SECONDS)))?;
         Ok(ClientSink { stream, faults: 0 })
     }

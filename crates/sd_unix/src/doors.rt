@@ -1,8 +1,13 @@
 //! The doors that clients come through.
+ghost use Rattle.std.specs.Prelude.{◌≡◌, false, IfOk};
+ghost use Rattle.sd_unix.specs.Telling.{IsSameDoors};
+
 use crate::connection::{ClientSink, ClientSource, Visitor};
 use crate::socket::ListeningSocket;
 use mio::unix::SourceFd;
 use mio::{Events, Interest, Poll, Token};
+use sd_base::{Sink, Source};
+use sd_doors::{DoorFailed, Doors};
 use std::alloc::{Alloc, Global};
 use std::fs::Files;
 use std::io::ErrorKind;
@@ -43,6 +48,8 @@ pub struct UnixDoors<'r, R: Files + Net + Clock> {
     events: Events<Global>,
     is_administrator_waiting: bool,
     is_anyone_waiting: bool,
+    gave: bool,
+    faults: u64,
 }
 
 fn accept_at(rt: &impl Clock, listener: &UnixListener) -> Accepted {
@@ -57,7 +64,9 @@ fn accept_at(rt: &impl Clock, listener: &UnixListener) -> Accepted {
     }
 }
 
-fn connection(stream: UnixStream, visitor: Visitor) -> io::Result<(ClientSource, ClientSink)> {
+fn connection(stream: UnixStream, visitor: Visitor) -> io::Result<(ClientSource, ClientSink)>
+    ensures { IfOk result (λ made. (⟦<ClientSource as Source>⟧.faults made.0 ≡ 0) × (⟦<ClientSink as Sink>⟧.faults made.1 ≡ 0)) }
+{
     let sink = ClientSink::new(stream.try_clone()?)?;
     Ok((ClientSource::new(stream, visitor)?, sink))
 }
@@ -70,7 +79,10 @@ fn watch(poll: &Poll, listener: &UnixListener, token: Token) -> io::Result<()> {
 
 impl<'r, R: Files + Net + Clock + Alloc<A = Global>> UnixDoors<'r, R> {
     /// Opens both doors.
-    pub fn open(rt: &'r R, path: &str) -> io::Result<UnixDoors<'r, R>> {
+    pub fn open(rt: &'r R, path: &str) -> io::Result<UnixDoors<'r, R>>
+        ensures gave { IfOk result (λ doors. ⟦<UnixDoors<'r, R> as Doors>⟧.gave doors ≡ false) }
+        ensures faults { IfOk result (λ doors. ⟦<UnixDoors<'r, R> as Doors>⟧.faults doors ≡ 0) }
+    {
         let alloc = rt.alloc();
         let own = format!(in alloc; "{path}")?;
         let shared = format!(in alloc; "{path}.public")?;
@@ -87,11 +99,15 @@ impl<'r, R: Files + Net + Clock + Alloc<A = Global>> UnixDoors<'r, R> {
             events: Events::with_capacity(alloc, 2)?,
             is_administrator_waiting: true,
             is_anyone_waiting: true,
+            gave: false,
+            faults: 0,
         })
     }
 
     /// Who waits at a door, the administrator first.
-    fn accept_waiting(&mut self) -> Option<(UnixStream, Visitor)> {
+    fn accept_waiting(&mut self) -> Option<(UnixStream, Visitor)>
+        ensures { IsSameDoors (⟦<UnixDoors<'r, R> as Doors>⟧.gave self.old) (⟦<UnixDoors<'r, R> as Doors>⟧.faults self.old) (⟦<UnixDoors<'r, R> as Doors>⟧.gave self.new) (⟦<UnixDoors<'r, R> as Doors>⟧.faults self.new) }
+    {
         if self.is_administrator_waiting {
             match accept_at(self.rt, &self.administrator.listener) {
                 Accepted::Came(stream) => return Some((stream, Visitor::Administrator)),
@@ -110,7 +126,9 @@ impl<'r, R: Files + Net + Clock + Alloc<A = Global>> UnixDoors<'r, R> {
     }
 
     /// Waits until somebody comes, where nobody is there.
-    fn wait(&mut self) -> io::Result<()> {
+    fn wait(&mut self) -> io::Result<()>
+        ensures { IsSameDoors (⟦<UnixDoors<'r, R> as Doors>⟧.gave self.old) (⟦<UnixDoors<'r, R> as Doors>⟧.faults self.old) (⟦<UnixDoors<'r, R> as Doors>⟧.gave self.new) (⟦<UnixDoors<'r, R> as Doors>⟧.faults self.new) }
+    {
         if self.is_administrator_waiting || self.is_anyone_waiting {
             return Ok(());
         }
@@ -125,7 +143,10 @@ impl<'r, R: Files + Net + Clock + Alloc<A = Global>> UnixDoors<'r, R> {
     }
 
     /// The next client. Where the system has no descriptor left for it, it is tried again after a pause.
-    pub fn accept(&mut self) -> io::Result<(ClientSource, ClientSink)> {
+    fn next_client(&mut self) -> io::Result<(ClientSource, ClientSink)>
+        ensures same { IsSameDoors (⟦<UnixDoors<'r, R> as Doors>⟧.gave self.old) (⟦<UnixDoors<'r, R> as Doors>⟧.faults self.old) (⟦<UnixDoors<'r, R> as Doors>⟧.gave self.new) (⟦<UnixDoors<'r, R> as Doors>⟧.faults self.new) }
+        ensures unfailed { IfOk result (λ made. (⟦<ClientSource as Source>⟧.faults made.0 ≡ 0) × (⟦<ClientSink as Sink>⟧.faults made.1 ≡ 0)) }
+    {
         for _ in 0..u64::MAX {
             if let Some((stream, visitor)) = self.accept_waiting()
                 && let Ok(made) = connection(stream, visitor)
@@ -141,5 +162,31 @@ impl<'r, R: Files + Net + Clock + Alloc<A = Global>> UnixDoors<'r, R> {
     pub fn close(self) {
         self.administrator.remove(self.rt);
         self.public.remove(self.rt);
+    }
+}
+
+/// No connection is ever told to be the last: clients may always come.
+impl<'r, R: Files + Net + Clock + Alloc<A = Global>> Doors for UnixDoors<'r, R> {
+    type In = ClientSource;
+
+    type Out = ClientSink;
+
+    ghost gave = { λ d. d.gave };
+
+    ghost ended = { λ _. false };
+
+    ghost faults = { λ d. d.faults };
+
+    fn accept(&mut self) -> Result<Option<(ClientSource, ClientSink)>, DoorFailed> {
+        match self.next_client() {
+            Ok(client) => {
+                self.gave = true;
+                Ok(Some(client))
+            }
+            Err(_) => {
+                self.faults = self.faults.saturating_add(1);
+                Err(DoorFailed)
+            }
+        }
     }
 }

@@ -1,10 +1,16 @@
 use crate::UnixDoors;
 use sd_base::{Sink, Source, SourceFailed};
+use sd_doors::{DoorFailed, Doors};
 use std::fs;
 use std::io::{Read, Write};
 use std::os::unix::fs::PermissionsExt;
 use std::os::unix::net::UnixStream;
 use std::test::Fail;
+
+/// The next connection that comes through any doors.
+fn next<D: Doors>(doors: &mut D) -> Result<(D::In, D::Out), DoorFailed> {
+    doors.accept()?.ok_or(DoorFailed)
+}
 
 /// A lookup passes both doors, an administrator's frame one of them; the modes of the sockets are stated.
 #[test]
@@ -22,14 +28,14 @@ fn frames_pass_their_doors(rt: HostRuntime) -> Result<(), Fail> {
 
     let mut client = UnixStream::connect(&rt, path)?;
     client.write_all(&offline)?;
-    let (mut source, mut sink) = doors.accept()?;
+    let (mut source, mut sink) = next(&mut doors)?;
     assert_eq!(rt; source.take(&mut buf), Ok(5));
     assert_eq!(rt; sink.put(b"done 1"), Ok(6));
     assert_eq!(rt; client.read(&mut buf)?, 6);
 
     let mut other = UnixStream::connect(&rt, "sd_unix_test.socket.public")?;
     other.write_all(&[0, 0, 0, 5, 2, 0, 0, 0, 7])?;
-    let (mut asked, _) = doors.accept()?;
+    let (mut asked, _) = next(&mut doors)?;
     assert_eq!(rt; asked.take(&mut buf), Ok(9));
     other.write_all(&offline)?;
     assert_eq!(rt; asked.take(&mut buf), Err(SourceFailed));

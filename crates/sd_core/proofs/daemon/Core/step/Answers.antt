@@ -2,9 +2,10 @@ use Rattle.std.proofs.Common.{◌≡◌, true, sym, subst}
 use Rattle.std.specs.Prelude.{IfOk, OnOk}
 use Rattle.sd_rules.specs.Steps.{Daemon, is_steppable}
 use Rattle.sd_rules.specs.Reaching.{Reaches}
-use Rattle.sd_core.specs.Growth.{KeepsGrown}
+use Rattle.sd_core.specs.Growth.{KeepsGrown, KeepsPart}
 use Rattle.sd_core.specs.Laws.{FollowsLaws, KeepsOutcomes}
 use Rattle.sd_core.proofs.GrowthLaws.{grown_either, reached_either}
+use Rattle.sd_core.proofs.PartLaws.{part_either}
 use Rattle.sd_core.proofs.KeptLaws.{kept_either, follows_if_made, outcomes_if_made}
 use Rattle.sd_core.proofs.daemon.Core.step.Goals as goal
 
@@ -38,3 +39,9 @@ pub returns-clause-legal : goal.returns-clause-legal
 returns-clause-legal c =
     subst (λ (d : Daemon). KeepsGrown d c.step.new.self) c.self.view_is
     (λ (opened : Daemon). grown_either opened c.self.inside.plain c.step.new.self c.args.now c.args.event c.step.result c.step.ensures.made c.step.ensures.unchanged)
+
+pub returns-clause-part : goal.returns-clause-part
+returns-clause-part c =
+    let steppable = subst (λ (d : Daemon). is_steppable d.past c.args.event ≡ true) (sym c.self.view_is) c.requires in
+    subst (λ (d : Daemon). KeepsPart d c.step.new.self) c.self.view_is
+    (λ (opened : Daemon). part_either opened c.self.inside.plain c.step.new.self c.args.now c.args.event c.step.result c.step.ensures.made c.step.ensures.unchanged steppable c.self.invariant)

@@ -1,0 +1,4 @@
+pub mod Parts
+pub mod Orderly
+pub mod Kept
+pub mod Runs

@@ -1,0 +1,10 @@
+pub mod SameReplies
+pub mod SameGiven
+pub mod SameSteps
+pub mod Settled
+pub mod SettledReads
+pub mod KeptReads
+pub mod KeptCounts
+pub mod KeptLogins
+pub mod SameAtFirst
+pub mod SameDaemons

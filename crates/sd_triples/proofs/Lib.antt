@@ -1,0 +1,4 @@
+pub mod RunLaws
+pub mod Walk
+pub mod Spelled
+pub mod Trims

@@ -1,0 +1,69 @@
+// Triples.
+ghost use Rattle.std.specs.Prelude.{◌≡◌, IfOk};
+ghost use Rattle.sd_triples.specs.Grammar as grammar;
+
+use sd_base::{Copied, Items, Memory, Text};
+use std::alloc::Global;
+
+/// What a netgroup speaks of. An empty field stands for every host, user or domain.
+#[derive(Drop, Debug, PartialEq, Eq)]
+pub struct Triple {
+    pub host: Text,
+    pub user: Text,
+    pub domain: Text,
+}
+
+impl Copied for Triple {
+    fn copy(&self) -> Result<Triple, Memory> {
+        Ok(Triple {
+            host: self.host.copy()?,
+            user: self.user.copy()?,
+            domain: self.domain.copy()?,
+        })
+    }
+}
+
+/// A list of triples.
+pub type Triples = Items<Triple>;
+
+/// Bytes without the spaces in front of them.
+fn without_front(bytes: &[u8]) -> &[u8]
+    ensures { result.now ≡ grammar.without_front bytes.now }
+{
+    for (at, byte) in bytes.iter().enumerate() {
+        if *byte != b' ' {
+            return &bytes[at..];
+        }
+    }
+    &bytes[bytes.len()..]
+}
+
+#[tactic(auto, using(crate::proofs::Trims::ends))]
+/// Bytes without the spaces behind them.
+fn without_end(bytes: &[u8]) -> &[u8]
+    ensures { result.now ≡ grammar.without_end bytes.now }
+{
+    for end in (0..bytes.len()).rev() {
+        if bytes[end] != b' ' {
+            return &bytes[..end + 1];
+        }
+    }
+    &bytes[..0]
+}
+
+fn trimmed(alloc: Global, bytes: &[u8]) -> Result<Text, Memory>
+    ensures { IfOk result (λ text. text ≡ grammar.trimmed bytes.now) }
+{
+    Text::from_bytes(alloc, without_end(without_front(bytes)))
+}
+
+/// The triple of three fields, whose spaces at both ends are dropped.
+pub fn triple_of(alloc: Global, host: &[u8], user: &[u8], domain: &[u8]) -> Result<Triple, Memory>
+    ensures { IfOk result (λ triple. triple ≡ grammar.triple_of host.now user.now domain.now) }
+{
+    Ok(Triple {
+        host: trimmed(alloc, host)?,
+        user: trimmed(alloc, user)?,
+        domain: trimmed(alloc, domain)?,
+    })
+}

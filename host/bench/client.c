@@ -1,0 +1,340 @@
+/* client KIND PLACE COMMAND: asks for users by name and measures, in one way whatever is asked.
+ *
+ *   KIND PLACE   `frames SOCKET`: a daemon by its frames; `module FILE`: an NSS module, by its getpwnam_r;
+ *                `libc -`: the C library, which asks the daemon nscd where its socket is
+ *   COMMAND      `loop CLIENTS SECONDS PREFIX COUNT`   each client asks again and again for PREFIX and a number below COUNT
+ *                `each PREFIX FROM COUNT`              one client asks for so many names, one after the other
+ *                `burst CLIENTS NAME`                  all clients ask for one name at once
+ *                `first NAME`                          asks until the name is found, for at most 30 seconds
+ *
+ * Clients are processes. It prints what was asked, how many of it was found, seconds, and the times of answers in
+ * microseconds; for `first` the moment of the answer, by the monotonic clock in nanoseconds. */
+#include <dlfcn.h>
+#include <errno.h>
+#include <nss.h>
+#include <pwd.h>
+#include <stdatomic.h>
+#include <stdbool.h>
+#include <stdio.h>
+#include <stdlib.h>
+#include <string.h>
+#include <sys/mman.h>
+#include <sys/prctl.h>
+#include <sys/signal.h>
+#include <sys/socket.h>
+#include <sys/un.h>
+#include <sys/wait.h>
+#include <time.h>
+#include <unistd.h>
+
+#include "frames.h"
+
+enum { MOST_CLIENTS = 256, SECONDS_AT_MOST = 120, ROOM = 1 << 16 };
+
+/* Cells of times: 32 for each power of two nanoseconds, so a time is at most 3 % too high. */
+enum { PARTS = 32, CELLS = PARTS * 42 };
+
+struct tally {
+    uint64_t cells[CELLS];
+    uint64_t asked, found;
+};
+
+struct shared {
+    atomic_int ready, go;
+    struct tally tallies[MOST_CLIENTS];
+};
+
+typedef enum nss_status lookup(const char *, struct passwd *, char *, size_t, int *);
+
+static const char *place;
+static enum { FRAMES, MODULE, LIBC } kind;
+static lookup *ask_module;
+static int connection = -1;
+
+static void fail(const char *why)
+{
+    fprintf(stderr, "client: %s\n", why);
+    exit(1);
+}
+
+static uint64_t now(void)
+{
+    struct timespec time;
+
+    clock_gettime(CLOCK_MONOTONIC, &time);
+    return (uint64_t)time.tv_sec * 1000000000u + (uint64_t)time.tv_nsec;
+}
+
+static void rest(long nanoseconds)
+{
+    struct timespec time = { .tv_nsec = nanoseconds };
+
+    nanosleep(&time, NULL);
+}
+
+static bool connect_to_place(void)
+{
+    struct sockaddr_un address = { .sun_family = AF_UNIX };
+
+    if (strlen(place) >= sizeof address.sun_path)
+        fail("the path is too long");
+    strcpy(address.sun_path, place);
+    connection = socket(AF_UNIX, SOCK_STREAM | SOCK_CLOEXEC, 0);
+    if (connection >= 0 && connect(connection, (const struct sockaddr *)&address, sizeof address) == 0)
+        return true;
+    if (connection >= 0)
+        close(connection);
+    connection = -1;
+    return false;
+}
+
+/* The name of the module's call is in its file's name: libnss_NAME.so.2. */
+static void open_module(void)
+{
+    const char *file = strrchr(place, '/') ? strrchr(place, '/') + 1 : place;
+    void *module = dlopen(place, RTLD_NOW);
+    char call[128], name[64] = "";
+
+    if (module == NULL || sscanf(file, "libnss_%63[^.]", name) != 1)
+        fail("no such module");
+    snprintf(call, sizeof call, "_nss_%s_getpwnam_r", name);
+    *(void **)&ask_module = dlsym(module, call);
+    if (ask_module == NULL)
+        fail("the module has no such call");
+}
+
+static void open_place(void)
+{
+    if (kind == FRAMES)
+        connect_to_place();
+    else if (kind == MODULE)
+        open_module();
+}
+
+static bool receive_reply(char *reply)
+{
+    size_t have = 0, wanted = 4;
+
+    while (have < wanted) {
+        ssize_t count = recv(connection, reply + have, ROOM - have, 0);
+
+        if (count <= 0)
+            return false;
+        have += (size_t)count;
+        if (have >= 4) {
+            const unsigned char *header = (const unsigned char *)reply;
+
+            wanted = 4 + ((size_t)header[0] << 24 | (size_t)header[1] << 16 | (size_t)header[2] << 8 | header[3]);
+            if (wanted > ROOM)
+                return false;
+        }
+    }
+    return have == wanted;
+}
+
+/* Whether the user was found. */
+static bool ask_by_frame(const char *name)
+{
+    static char reply[ROOM];
+    struct request request;
+
+    if (!request_by_name(&request, COMMAND_USER, name) || (connection < 0 && !connect_to_place()))
+        return false;
+    if (send(connection, request.bytes, request.length, MSG_NOSIGNAL) == (ssize_t)request.length && receive_reply(reply))
+        return memcmp(reply + 4, "found ", 6) == 0 || memcmp(reply + 4, "old ", 4) == 0;
+    close(connection);
+    connection = -1;
+    return false;
+}
+
+static bool ask(const char *name)
+{
+    static char buffer[ROOM];
+    struct passwd user, *found = NULL;
+    int fault;
+
+    switch (kind) {
+    case FRAMES:
+        return ask_by_frame(name);
+    case MODULE:
+        return ask_module(name, &user, buffer, sizeof buffer, &fault) == NSS_STATUS_SUCCESS;
+    case LIBC:
+        return getpwnam_r(name, &user, buffer, sizeof buffer, &found) == 0 && found != NULL;
+    }
+    return false;
+}
+
+static int cell_of(uint64_t time)
+{
+    int power, cell;
+
+    if (time < PARTS)
+        return (int)time;
+    power = 63 - __builtin_clzll(time);
+    cell = PARTS * (power - 4) + (int)((time >> (power - 5)) & (PARTS - 1));
+    return cell < CELLS ? cell : CELLS - 1;
+}
+
+static uint64_t top_of(int cell)
+{
+    if (cell < PARTS)
+        return (uint64_t)cell;
+    return (((uint64_t)(PARTS + cell % PARTS) + 1) << (cell / PARTS - 1)) - 1;
+}
+
+static void ask_timed(struct tally *tally, const char *name)
+{
+    uint64_t began = now();
+    bool found = ask(name);
+
+    tally->cells[cell_of(now() - began)]++;
+    tally->asked++;
+    tally->found += found;
+}
+
+/* Below it are so many of 100 times, in microseconds. */
+static double percentile(const struct tally *tally, unsigned share)
+{
+    uint64_t seen = 0;
+
+    for (int cell = 0; cell < CELLS; cell++) {
+        seen += tally->cells[cell];
+        if (seen * 100 >= tally->asked * share && seen > 0)
+            return (double)top_of(cell) / 1000;
+    }
+    return 0;
+}
+
+static void report(const struct tally *tally, double seconds)
+{
+    printf("asked %llu found %llu seconds %.3f p50 %.1f p99 %.1f\n", (unsigned long long)tally->asked,
+           (unsigned long long)tally->found, seconds, percentile(tally, 50), percentile(tally, 99));
+}
+
+static uint64_t next_random(uint64_t *state)
+{
+    *state ^= *state << 13;
+    *state ^= *state >> 7;
+    *state ^= *state << 17;
+    return *state;
+}
+
+/* What one client does; without seconds it asks for the name itself, once. */
+static void be_client(struct shared *shared, int number, double seconds, const char *prefix, unsigned count)
+{
+    struct tally *tally = &shared->tallies[number];
+    uint64_t state = 88172645463325252u + 7919 * (uint64_t)number, end;
+    char name[300];
+
+    open_place();
+    if (seconds > 0) {
+        /* Opens what is opened late. */
+        snprintf(name, sizeof name, "%s0", prefix);
+        ask(name);
+    }
+    atomic_fetch_add(&shared->ready, 1);
+    while (!atomic_load(&shared->go))
+        rest(200000);
+    end = now() + (uint64_t)(seconds * 1e9);
+    do {
+        if (seconds > 0)
+            snprintf(name, sizeof name, "%s%llu", prefix, (unsigned long long)(next_random(&state) % count));
+        else
+            snprintf(name, sizeof name, "%s", prefix);
+        ask_timed(tally, name);
+    } while (now() < end);
+}
+
+static int run_clients(int clients, double seconds, const char *prefix, unsigned count)
+{
+    struct shared *shared = mmap(NULL, sizeof *shared, PROT_READ | PROT_WRITE, MAP_SHARED | MAP_ANONYMOUS, -1, 0);
+    struct tally all = { 0 };
+    uint64_t began;
+    int status, failed = 0;
+
+    if (shared == MAP_FAILED || clients < 1 || clients > MOST_CLIENTS || count < 1)
+        fail("not so many clients");
+    for (int number = 0; number < clients; number++) {
+        pid_t child = fork();
+
+        if (child < 0)
+            fail("no process");
+        if (child == 0) {
+            prctl(PR_SET_PDEATHSIG, SIGKILL);
+            alarm(SECONDS_AT_MOST);
+            be_client(shared, number, seconds, prefix, count);
+            _exit(0);
+        }
+    }
+    while (atomic_load(&shared->ready) < clients)
+        rest(200000);
+    began = now();
+    atomic_store(&shared->go, 1);
+    while (wait(&status) > 0)
+        failed += status != 0;
+    for (int number = 0; number < clients; number++) {
+        const struct tally *tally = &shared->tallies[number];
+
+        all.asked += tally->asked;
+        all.found += tally->found;
+        for (int cell = 0; cell < CELLS; cell++)
+            all.cells[cell] += tally->cells[cell];
+    }
+    report(&all, (double)(now() - began) / 1e9);
+    return failed > 0;
+}
+
+static int ask_each(const char *prefix, unsigned from, unsigned count)
+{
+    struct tally tally = { 0 };
+    uint64_t began;
+    char name[300];
+
+    open_place();
+    began = now();
+    for (unsigned number = from; number < from + count; number++) {
+        snprintf(name, sizeof name, "%s%u", prefix, number);
+        ask_timed(&tally, name);
+    }
+    report(&tally, (double)(now() - began) / 1e9);
+    return tally.found < count;
+}
+
+static int ask_first(const char *name)
+{
+    uint64_t end = now() + 30000000000u;
+
+    if (kind == MODULE)
+        open_module();
+    do {
+        if (ask(name)) {
+            printf("%llu\n", (unsigned long long)now());
+            return 0;
+        }
+        rest(200000);
+    } while (now() < end);
+    return 1;
+}
+
+int main(int count, char **words)
+{
+    const char *command = count > 3 ? words[3] : "";
+    int left = count - 4;
+
+    alarm(SECONDS_AT_MOST);
+    if (count > 3) {
+        kind = strcmp(words[1], "frames") == 0 ? FRAMES : strcmp(words[1], "module") == 0 ? MODULE : LIBC;
+        place = words[2];
+        words += 4;
+    }
+    if (strcmp(command, "loop") == 0 && left == 4)
+        return run_clients(atoi(words[0]), atof(words[1]), words[2], (unsigned)atoi(words[3]));
+    if (strcmp(command, "each") == 0 && left == 3)
+        return ask_each(words[0], (unsigned)atoi(words[1]), (unsigned)atoi(words[2]));
+    if (strcmp(command, "burst") == 0 && left == 2)
+        return run_clients(atoi(words[0]), 0, words[1], 1);
+    if (strcmp(command, "first") == 0 && left == 1)
+        return ask_first(words[0]);
+    fprintf(stderr, "client frames SOCKET|module FILE|libc - loop|each|burst|first ..\n");
+    return 2;
+}
