@@ -1,6 +1,6 @@
 -- What a step under the turn says of the front before the turn was taken.
-use Rattle.std.proofs.Common.{◌≡◌, ℕ, Bool, true, false, List, [], ◌∷◌, sym, ap, subst, refl, ◌∙◌}
-use Rattle.std.specs.Prelude.{Result, Ok, Err, IfOk, Option, Some, None, not, ◌&&◌, ◌||◌, if◌then◌else◌}
+use Rattle.std.proofs.Common.{◌≡◌, ℕ, Bool, true, false, List, [], ◌∷◌, ◌<◌, arith, sym, ap, subst, refl, ◌∙◌}
+use Rattle.std.specs.Prelude.{Result, Ok, Err, IfOk, IsOk, OnErr, Option, Some, None, not, ◌&&◌, ◌||◌, if◌then◌else◌}
 use Rattle.sd_turn.specs.declared.view.History.{History}
 use Rattle.sd_turn.specs.Histories.{with_entry}
 use Rattle.sd_rules.specs.declared.events.Event.TheVariants.{Collect}
@@ -18,6 +18,7 @@ use Rattle.sd_rules.specs.Steps.{Daemon, entry_made, after, reply_to_collect, la
 use Rattle.sd_core.specs.declared.plain.Look.TheVariants.{Running, Closed}
 use Rattle.sd_core.specs.Laws.{IsKept}
 use Rattle.sd_core.specs.Looks.{look_by, look_of}
+use Rattle.sd_core.specs.Sound.{IsSound}
 use Rattle.sd_core.proofs.Room.{next_is_above}
 use Rattle.sd_desk.specs.declared.refusals.CollectFault.{CollectFault}
 use Rattle.sd_desk.specs.declared.refusals.CollectFault.TheVariants as collect
@@ -83,3 +84,12 @@ pub full_was : (fault : StepFault) (n : ℕ) → collect_fault fault ≡ collect
 unfolding places_in
 full_was (steps.JournalFull m) n h = let same : m ≡ n = ap places_in h in ap steps.JournalFull same
 full_was steps.Memory n h = let clash : ⊥ = cc in absurd clash
+
+-- the next number of a core is above what it counts
+pub number_above : (d : Daemon) → IsSound d → 0 < d.next
+number_above d sound = let few = sound.wrongs.fewer [] in omega arith
+
+pub not_closing : (b : Bool) (r : Result Given Refused) → (b ≡ true → IsOk r) → OnErr r (b ≡ false)
+not_closing b (Ok g) made = tt
+not_closing true (Err refused) made = let e = made refl in let clash : ⊥ = cc in absurd clash
+not_closing false (Err refused) made = refl

@@ -18,7 +18,8 @@ use Rattle.sd_rules.specs.Steps.{Daemon, number_after, next_number, entry_made, 
 use Rattle.sd_core.specs.Sound.{falls_from}
 use Rattle.sd_core.proofs.Room.{next_is_above}
 use Rattle.sd_core.proofs.KindLaws.{both_hold}
-use Rattle.sd_desk.specs.Steps.{MayStep, WasAsked}
+use Rattle.sd_desk.specs.Speaking.{OrNone, Speaks}
+use Rattle.sd_desk.specs.Steps.{MayStep, AnswersKind}
 
 second : (a b : Bool) → a && b ≡ true → b ≡ true
 second true b h = h
@@ -41,11 +42,6 @@ kept_falls false e past others n h f =
 needed_falls : (all past : List Entry) (n : ℕ) → falls_from n past ≡ true → falls_from n (needed_among all past) ≡ true
 needed_falls all [] n h = refl
 needed_falls all (e ∷ past) n h = kept_falls (is_needed all past e) e past (needed_among all past) n h (λ below. needed_falls all past e.number below)
-
--- no key, or this one
-abbrev OrNone : Key → Option Key → Type 0
-OrNone k None = Unit {0}
-OrNone k (Some q) = q ≡ k
 
 passed_by : (b : Bool) (x y : Option Key) → b ≡ false → y ≡ None → cond b x y ≡ None
 passed_by true x y f h = cc
@@ -89,31 +85,25 @@ needed_key all (e ∷ past) n r k h o =
     (λ same. none_above (needed_among all past) e.number r (needed_falls all past e.number below) (grind (arith, nat_tests, same)))
     (λ p. needed_key all past e.number r k below p)
 
--- a request below the next number, of this key where its entry is there
-record Speaks (r : ℕ) (k : Key) (d : Daemon) : Type 0 where
-  numbers : falls_from d.next d.past ≡ true
-  below : r < d.next
-  key : OrNone k (key_of d.past r)
-
 passed : (b : Bool) (x y : Option Key) (k : Key) → b ≡ false → OrNone k y → OrNone k (cond b x y)
 passed true x y k f o = let clash : ⊥ = cc in absurd clash
 passed false x y k f o = o
 
-speaks_after : (r : ℕ) (k : Key) (d : Daemon) (now : ℕ) (event : Event) → Speaks r k d → Speaks r k (after d now event)
+pub speaks_after : (r : ℕ) (k : Key) (d : Daemon) (now : ℕ) (event : Event) → Speaks r k d → Speaks r k (after d now event)
 speaks_after r k d now event s =
     let same : next_number d ≡ d.next = next_is_above d.next d.past s.numbers in
     let below = s.below in record {
       numbers = both_hold (nat_lt (next_number d) (next_number d + 1)) (falls_from (next_number d) d.past) (grind (arith, nat_tests))
           (subst (λ n. falls_from n d.past ≡ true) (sym same) s.numbers);
       below = omega arith;
-      key = passed (next_number d == r) (key_asked event) (key_of d.past r) k (grind (arith, nat_tests, same, below)) s.key;
+      asked = passed (next_number d == r) (key_asked event) (key_of d.past r) k (grind (arith, nat_tests, same, below)) s.asked;
     }
 
 speaks_forgot : (r : ℕ) (k : Key) (d : Daemon) → Speaks r k d → Speaks r k (after_forget d)
 speaks_forgot r k d s = record {
   numbers = needed_falls d.past d.past d.next s.numbers;
   below = s.below;
-  key = needed_key d.past d.past d.next r k s.numbers s.key;
+  asked = needed_key d.past d.past d.next r k s.numbers s.asked;
 }
 
 speaks_moved : (r : ℕ) (k : Key) (moves : List Move) (d : Daemon) → Speaks r k d → Speaks r k (after_moves d moves)
@@ -133,23 +123,24 @@ absent_fits : (o : Option Key) → answers_kind o Absent ≡ true
 absent_fits None = refl
 absent_fits (Some k) = refl
 
-asked_fits : (f g : Daemon) (r : ℕ) (answered : Answered) → WasAsked f r answered → Reaches f g → answers_kind (key_of g.past r) answered ≡ true
-asked_fits f g r answered asked to =
-    let w = asked.asked_in in
-    let first : Speaks r asked.key w = record {
-      numbers = asked.rises;
-      below = asked_below w.past w.next r asked.key asked.rises asked.asked;
-      key = subst (OrNone asked.key) (sym asked.asked) refl;
-    } in
-    let at_front : Speaks r asked.key f = subst (Speaks r asked.key) asked.reached.reached (speaks_moved r asked.key asked.reached.moves w first) in
-    let at_last : Speaks r asked.key g = subst (Speaks r asked.key) to.reached (speaks_moved r asked.key to.moves f at_front) in
-    fits_kind (key_of g.past r) asked.key answered at_last.key asked.of_kind
+-- what a journal says of a request, each that it reaches says too
+pub speaks_reached : (r : ℕ) (k : Key) (f g : Daemon) → Speaks r k f → Reaches f g → Speaks r k g
+speaks_reached r k f g s to = subst (Speaks r k) to.reached (speaks_moved r k to.moves f s)
+
+-- so does one in which the request's entry stands
+pub asked_speaks : (r : ℕ) (k : Key) (d : Daemon) → falls_from d.next d.past ≡ true → key_of d.past r ≡ Some k → Speaks r k d
+asked_speaks r k d numbers is = record { numbers = numbers; below = asked_below d.past d.next r k numbers is; asked = subst (OrNone k) (sym is) refl }
+
+kind_fits : (f g : Daemon) (r : ℕ) (answered : Answered) → AnswersKind f r answered → Reaches f g → answers_kind (key_of g.past r) answered ≡ true
+kind_fits f g r answered h to =
+    let s = speaks_reached r h.key f g h.speaks to in
+    fits_kind (key_of g.past r) h.key answered s.asked h.of_kind
 
 -- what may be stepped by whoever knows a journal may be stepped in each that it reaches
 pub may_step : (f g : Daemon) (event : Event) → MayStep f event → Reaches f g → is_steppable g.past event ≡ true
 may_step f g (Kept row) may to = absurd may
 may_step f g (Answer r (Found found)) may to =
-    or_true (not (is_open_request g.past r)) (answers_kind (key_of g.past r) (Found found)) (asked_fits f g r (Found found) may to)
+    or_true (not (is_open_request g.past r)) (answers_kind (key_of g.past r) (Found found)) (kind_fits f g r (Found found) may to)
 may_step f g (Answer r Absent) may to =
     or_true (not (is_open_request g.past r)) (answers_kind (key_of g.past r) Absent) (absent_fits (key_of g.past r))
 may_step f g _ may to = refl

@@ -9,7 +9,6 @@ use Rattle.sd_rules.specs.declared.events.Event.TheVariants.{Answer, Collect, Ke
 use Rattle.sd_rules.specs.declared.replies.Entry.{Entry}
 use Rattle.sd_rules.specs.declared.replies.Given.{Given}
 use Rattle.sd_rules.specs.Keys.{is_answer_of_kind}
-use Rattle.sd_rules.specs.Past.{key_of}
 use Rattle.sd_rules.specs.Reaching.{Reaches, after_forget}
 use Rattle.sd_rules.specs.Needed.{forgotten}
 use Rattle.sd_rules.specs.Requests.{waits_for, is_open_request}
@@ -17,19 +16,16 @@ use Rattle.sd_rules.specs.Steps as steps
 use Rattle.sd_rules.specs.Steps.{Daemon}
 use Rattle.sd_rules.specs.TextBytes.{bytes_of_text, bytes_of_record, bytes_of_event}
 use Rattle.sd_core.specs.Laws.{IsKept, FollowsLaws}
-use Rattle.sd_core.specs.Sound.{falls_from}
+use Rattle.sd_desk.specs.Speaking.{Speaks}
 
--- The request of an answer was asked for a key of the answer's kind, by an entry of a journal of rising numbers that reaches the front.
-pub record WasAsked (front : Daemon) (request : ℕ) (answered : Answered) : Type 0 where
-  pub asked_in : Daemon
-  pub rises : falls_from asked_in.next asked_in.past ≡ true
-  pub reached : Reaches asked_in front
+-- The request of an answer is of a key of the answer's kind.
+pub record AnswersKind (front : Daemon) (request : ℕ) (answered : Answered) : Type 0 where
   pub key : Key
-  pub asked : key_of asked_in.past request ≡ Some key
+  pub speaks : Speaks request key front
   pub of_kind : is_answer_of_kind answered key ≡ true
 
 abbrev pub MayAnswer : Daemon → ℕ → Answered → Type 0
-MayAnswer front request (Found found) = WasAsked front request (Found found)
+MayAnswer front request (Found found) = AnswersKind front request (Found found)
 MayAnswer front request Absent = Unit {0}
 
 -- what whoever hands an event to the desk knows of it: it is no kept row, and an answer that found its key is of the kind that was asked
@@ -94,3 +90,10 @@ pub record Collected (old new : Daemon) (mine_before mine_after : List Entry) (n
   pub reached : Reaches old before
   pub made : MadeOver before new mine_before mine_after now (Collect ticket) given
   pub ready : (request : ℕ) → IsPending before.past ticket request → ⊥
+
+-- A step was refused as full over a journal that was reached from what a forget left.
+pub record FullAfterForget (old new : Daemon) (event : Event) (count : ℕ) : Type 0 where
+  pub before : Daemon
+  pub reached : Reaches old before
+  pub forgot : Reaches (after_forget before) new
+  pub full : WasFull new event count

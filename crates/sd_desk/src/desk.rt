@@ -9,7 +9,7 @@ use sd_base::Memory;
 use sd_conf::Config;
 use sd_core::{Core, Look};
 use sd_creds::Salts;
-use sd_rules::{Event, Given, Refused, StepFault};
+use sd_rules::{Event, Given, Refused, Rows, StepFault};
 use sd_turn::{Busy, Held, Turn, TurnHeld};
 use std::alloc::Global;
 use std::sync::Wait;
@@ -25,16 +25,19 @@ pub struct Desk {
 }
 
 impl Desk {
-    ghost use Rattle.std.specs.Prelude.{◌≡◌, ◌≢◌, ◌⊎◌, ◌+◌, ◌<◌, ◌≤◌, ◌++◌, ℕ, [], ◌∷◌, true, false, map, Contains, IfOk, IfErr, IsOk, OnOk, OnErr, Some, None};
+    ghost use Rattle.std.specs.Prelude.{◌≡◌, ◌≢◌, ◌⊎◌, ◌+◌, ◌^◌, ◌<◌, ◌≤◌, ◌++◌, ℕ, length, sum_by, [], ◌∷◌, true, false, map, Contains, IfOk, IfErr, IsOk, OnOk, OnErr, Some, None};
     ghost use Rattle.sd_turn.specs.Counts.{AreDistinct, AreAllBetween};
     ghost use Rattle.sd_turn.specs.Seats as seats;
     ghost use Rattle.sd_rules.specs.Reaching.{Reaches};
     ghost use Rattle.sd_rules.specs.Steps as steps;
+    ghost use Rattle.sd_core.specs.Laws.{closes_place};
     ghost use Rattle.sd_core.specs.Looks.{has_stopped};
+    ghost use Rattle.sd_rules.specs.KeptRows.{rows_of};
+    ghost use Rattle.sd_rules.specs.TextBytes.{bytes_of_row};
     ghost use Rattle.sd_rules.specs.Requests.{waits_for};
     ghost use Rattle.sd_desk.specs.Desks.{opening, front, mine, name, splits, out, takes, found, IsOwn, HoldsNoTurn, IsSameSeat, HasWon, SameTries, IsFirst, IsSplit, IsJoined, numbers, config_of, salts_of};
     ghost use Rattle.sd_desk.specs.Holding.{Holds, MayGive};
-    ghost use Rattle.sd_desk.specs.Steps.{MayStep, MadeOver, MadeEntry, Collected, WasFull, IsPending};
+    ghost use Rattle.sd_desk.specs.Steps.{MayStep, MadeOver, MadeEntry, Collected, WasFull, IsPending, most_text};
 
     fn try_take(&self, seat: &mut DeskSeat) -> Result<Held<SharedCore>, Busy>
         requires own { IsOwn self.now seat.old }
@@ -101,6 +104,7 @@ impl Desk {
         ensures mine { OnErr result (mine seat.new ≡ mine seat.old) }
         ensures back { IfErr result (λ refused. refused.event ≡ event) }
         ensures full { IfErr result (λ refused. (n : ℕ) → refused.fault ≡ StepFault.JournalFull n → WasFull held.value.core event n) }
+        ensures closing { OnErr result (closes_place held.value.core.past event ≡ false) }
     {
         match held.value().step(now, event) {
             Ok(given) => {
@@ -179,6 +183,9 @@ impl Desk {
         ensures mine { OnErr result (mine seat.new ≡ mine seat.old) }
         ensures back { IfErr result (λ refused. refused.event ≡ event) }
         ensures full { IfErr result (λ refused. (n : ℕ) → refused.fault ≡ StepFault.JournalFull n → WasFull (front self.now seat.new) event n) }
+
+        // An Abandon of what is open in the journal that was found, and a Leave of a ticket that waits in it, are made.
+        ensures closing { OnErr result (closes_place (front self.now seat.new).past event ≡ false) }
     {
         let held = self.take(rt, seat);
         self.step_held(seat, held, now, event)
@@ -256,6 +263,26 @@ impl Desk {
         stopping
     }
 
+    /// The rows that are kept of the journal over a restart.
+    pub fn kept<R: Wait>(&self, rt: &R, seat: &mut DeskSeat) -> Result<Rows, Memory>
+        requires own { IsOwn self.now seat.old }
+        requires free { HoldsNoTurn seat.old }
+        ensures own { IsOwn self.now seat.new }
+        ensures free { HoldsNoTurn seat.new }
+        ensures same { IsSameSeat seat.old seat.new }
+        ensures won { HasWon seat.old seat.new }
+        ensures reaches { Reaches (front self.now seat.old) (front self.now seat.new) }
+        ensures mine { mine seat.new ≡ mine seat.old }
+        ensures rows { IfOk result (λ rows. rows ≡ rows_of (front self.now seat.new)) }
+        ensures few { IfOk result (λ rows. length rows < 2 ^ 32) }
+        ensures texts { IfOk result (λ rows. sum_by bytes_of_row rows ≤ most_text) }
+    {
+        let mut held = self.take(rt, seat);
+        let rows = held.value().core.kept();
+        self.give(seat, held);
+        rows
+    }
+
     /// A new seat with the same front, and no entries of its own.
     pub fn split(&self, seat: &mut DeskSeat) -> DeskSeat
         requires own { IsOwn self.now seat.old }
@@ -294,7 +321,7 @@ impl Desk {
         seat.counts = own.later(counts);
     }
 
-    /// A desk of a core, with what its sessions read, and its first seat. A core that was opened has a next number above 0.
+    /// A desk of a core, with what its sessions read, and its first seat.
     pub fn new(
         alloc: Global,
         core: Core,
@@ -303,7 +330,6 @@ impl Desk {
     ) -> Result<(Desk, DeskSeat), Memory>
         requires settings { core.settings ≡ config.settings }
         requires pwfield { length config.pwfield ≤ 255 }
-        requires above { 0 < core.next }
         ensures own { IfOk result (λ made. IsOwn made.0 made.1) }
         ensures free { IfOk result (λ made. HoldsNoTurn made.1) }
         ensures first { IfOk result (λ made. IsFirst made.1) }
@@ -312,11 +338,7 @@ impl Desk {
         ensures config { IfOk result (λ made. config_of made.0 ≡ config) }
         ensures salts { IfOk result (λ made. salts_of made.0 ≡ salts) }
     {
-        let entries = core.journal().len();
-        let shared = SharedCore {
-            core,
-            left: entries,
-        };
+        let shared = SharedCore::new(core);
         let counts = shared.counts();
         let (turn, seat) = Turn::new(alloc, shared)?;
         Ok((

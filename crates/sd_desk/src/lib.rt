@@ -9,8 +9,6 @@ mod desk;
 mod refusals;
 mod seat;
 mod shared;
-#[cfg(test)]
-mod tests;
 
 pub use counts::Counts;
 pub use desk::Desk;

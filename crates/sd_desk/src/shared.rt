@@ -56,6 +56,16 @@ impl Chronicle for SharedCore {
 }
 
 impl SharedCore {
+    /// A core that nothing was forgotten of yet.
+    pub(crate) fn new(core: Core) -> SharedCore
+        ensures { result.core ≡ core }
+    {
+        // A number of its own is above 0.
+        core.next_number();
+        let left = core.journal().len();
+        SharedCore { core, left }
+    }
+
     /// What a seat that gives this core back knows of its journal.
     pub(crate) fn counts(&self) -> Counts
         ensures next { result.next ≡ self.now.core.next }
@@ -78,6 +88,7 @@ impl SharedCore {
         ensures full { IfErr result (λ refused. (n : ℕ) → refused.fault ≡ StepFault.JournalFull n → WasFull self.old.core event n) }
         ensures back { IfErr result (λ refused. refused.event ≡ event) }
         ensures unchanged { OnErr result (self.new.core ≡ self.old.core) }
+        ensures closing { OnErr result (laws.closes_place self.old.core.past event ≡ false) }
         ensures laws { IfOk result (laws.FollowsLaws self.old.core now event) }
         ensures texts { IfOk result (HasBoundedTexts event) }
         ensures reached { reaching.Reaches self.old.core self.new.core }
