@@ -1,0 +1,447 @@
+-- What a turn makes of where a session stands.
+use Rattle.std.proofs.Common.{◌≡◌, ◌∙◌, ◌⊎◌, ℕ, ◌+◌, ◌-◌, ◌^◌, ◌≤◌, Bool, true, false, List, [], ◌∷◌, ◌++◌, take, length, zero, suc, Option, Some, None, refl, sym, ap, subst, inl, inr, append_assoc, append-nil, length-append, arith}
+use Rattle.std.specs.Prelude.{IfSome, min}
+use Rattle.std.specs.Option.{option_map}
+use Rattle.std.specs.Io.KnownBytes.{Appends, Consumes}
+use Rattle.std.proofs.KnownBytes.{Appends-nil, Appends-trans, Consumes-nil, Consumes-trans}
+use Rattle.sd_base.specs.Causes.{Rose}
+use Rattle.sd_base.specs.Written.{AppendsFront}
+use Rattle.sd_base.specs.declared.Why.{Why}
+use Rattle.sd_base.specs.declared.Why.TheVariants as whys
+use Rattle.sd_rules.specs.declared.events.Event.{Event}
+use Rattle.sd_rules.specs.declared.keys.Key.{Key}
+use Rattle.sd_rules.specs.declared.replies.Entry.{Entry}
+use Rattle.sd_rules.specs.declared.replies.Given.{Given}
+use Rattle.sd_rules.specs.declared.tasks.Bound.{Bound}
+use Rattle.sd_rules.specs.declared.tasks.Bound.TheVariants as bounds
+use Rattle.sd_rules.specs.declared.tasks.Fetched.{Fetched}
+use Rattle.sd_rules.specs.declared.tasks.Fetched.TheVariants as fetches
+use Rattle.sd_rules.specs.declared.tasks.Need.{Need}
+use Rattle.sd_rules.specs.declared.tasks.Need.TheVariants as needs
+use Rattle.sd_rules.specs.declared.tasks.Said.{Said}
+use Rattle.sd_rules.specs.Steps.{Daemon, after, given, is_full, is_steppable}
+use Rattle.sd_conf.specs.declared.config.Config.{Config}
+use Rattle.sd_clock.specs.Readings.{FollowsOn}
+use Rattle.sd_dial.specs.Entries.{Behind}
+use Rattle.sd_dial.specs.Operations.{Operation}
+use Rattle.sd_inquiry.specs.Counting.{HasNotFallen}
+use Rattle.sd_inquiry.specs.Lookups.{with_operations}
+use Rattle.sd_inbox.specs.Taking.{Unread}
+use Rattle.sd_wire.specs.declared.requests.Request.{Request}
+use Rattle.sd_wire.specs.Frames.{frame_of}
+use Rattle.sd_course.specs.Courses.{Client, need_of, event_of, script_at, client_told, client_replied, client_fetched, client_bound, told, fetched, bound}
+use Rattle.sd_course.specs.Names.{IsKnown, KeepsKeys}
+use Rattle.sd_course.proofs.KnownLaws.{known_on}
+use Rattle.sd_course.proofs.ReplyLaws.{told_known, fetched_known, bound_known, known_after}
+use Rattle.sd_engine.specs.Answering.{reply_of}
+use Rattle.sd_engine.specs.Engines.{Engine, client_of, heard, with_inbox, with_client, awaiting, failing, done, replied, is_stop}
+use Rattle.sd_engine.specs.Turns.{Dialling, HearsRequest, HearsBytes, GoesByFetch, GoesByBind, IsTold, IsUntold}
+use Rattle.sd_solo.specs.Sessions.{Move, Hears, Steps, Refuses, Fetches, Binds, Tells, Breaks, Finishes, Stand, AllMay, May, moved, stand_after, frames_of, last_stops, ReadsOn, CountsFalls, fetch_falls, bind_falls, NeedsStep, NeedsFetch, NeedsBind, NeedsSay, NeedsNothing}
+use Rattle.sd_solo.specs.Running.{Outside, IsInHand, IsHeardTo, IsWrittenTo, IsAskedTo, HasInHand, Stands}
+use Rattle.sd_solo.specs.Stepping.{IsMade}
+use Rattle.sd_solo.proofs.Begun.{begun_is_known}
+
+-- ---- what is told of the outside goes on
+
+pub more_operations : (known between now : Option (List Operation)) (first more : List Operation) → between ≡ with_operations known first → now ≡ with_operations between more → now ≡ with_operations known (first ++ more)
+more_operations None between now first more e f = f ∙ ap (λ (o : Option (List Operation)). with_operations o more) e
+more_operations (Some operations) between now first more e f =
+    f ∙ ap (λ (o : Option (List Operation)). with_operations o more) e ∙ ap Some (append_assoc operations first more)
+
+pub reads_more : (before between now : Option (List ℕ)) (moments : List ℕ) (moment : ℕ) → ReadsOn before moments between → FollowsOn between moment now → ReadsOn before (moments ++ moment ∷ []) now
+reads_more before between None moments moment e f = tt
+reads_more before None (Some readings) moments moment e f = absurd f
+reads_more None (Some earlier) (Some readings) moments moment e f = absurd e
+reads_more (Some first) (Some earlier) (Some readings) moments moment e f = f ∙ ap (λ (list : List ℕ). list ++ moment ∷ []) e ∙ append_assoc first moments (moment ∷ [])
+
+pub falls_more : (before falls between now one : ℕ) → CountsFalls before falls between → HasNotFallen between now → one ≤ 1 → (one ≡ 1 → Rose between now) → CountsFalls before (falls + one) now
+falls_more before falls between now one counted later small rose = by_one one refl small
+  where
+    by_one : (n : ℕ) → one ≡ n → n ≤ 1 → CountsFalls before (falls + one) now
+    by_one zero e s = omega (arith, e, counted, later)
+    by_one (suc n) e s = let risen : Rose between now = rose (omega (arith, e, s)) in omega (arith, e, s, counted, risen)
+
+pub fallen_later : (a b c : ℕ) → HasNotFallen a b → HasNotFallen b c → HasNotFallen a c
+fallen_later a b c e f = omega (arith, e, f)
+
+pub fetch_falls_small : (f : Fetched) → fetch_falls f ≤ 1
+fetch_falls_small (fetches.Found found) = omega arith
+fetch_falls_small fetches.Absent = omega arith
+fetch_falls_small (fetches.Refused code) = omega arith
+fetch_falls_small (fetches.Many count) = omega arith
+fetch_falls_small (fetches.Failed whys.Link) = omega arith
+fetch_falls_small (fetches.Failed (whys.Bytes at)) = omega arith
+fetch_falls_small (fetches.Failed (whys.Code code)) = omega arith
+fetch_falls_small (fetches.Failed (whys.Message tag)) = omega arith
+fetch_falls_small (fetches.Failed (whys.Flood count)) = omega arith
+fetch_falls_small fetches.Memory = omega arith
+
+none_is_one : (P : Type 0) (n : ℕ) → n ≡ zero → n ≡ suc zero → P
+none_is_one P n e h = absurd (omega (arith, e, h))
+
+fetch_fell : (f : Fetched) → fetch_falls f ≡ 1 → f ≡ fetches.Failed whys.Link
+fetch_fell (fetches.Found found) h = none_is_one _ (fetch_falls (fetches.Found found)) refl h
+fetch_fell fetches.Absent h = none_is_one _ (fetch_falls fetches.Absent) refl h
+fetch_fell (fetches.Refused code) h = none_is_one _ (fetch_falls (fetches.Refused code)) refl h
+fetch_fell (fetches.Many count) h = none_is_one _ (fetch_falls (fetches.Many count)) refl h
+fetch_fell (fetches.Failed whys.Link) h = refl
+fetch_fell (fetches.Failed (whys.Bytes at)) h = none_is_one _ (fetch_falls (fetches.Failed (whys.Bytes at))) refl h
+fetch_fell (fetches.Failed (whys.Code code)) h = none_is_one _ (fetch_falls (fetches.Failed (whys.Code code))) refl h
+fetch_fell (fetches.Failed (whys.Message tag)) h = none_is_one _ (fetch_falls (fetches.Failed (whys.Message tag))) refl h
+fetch_fell (fetches.Failed (whys.Flood count)) h = none_is_one _ (fetch_falls (fetches.Failed (whys.Flood count))) refl h
+fetch_fell fetches.Memory h = none_is_one _ (fetch_falls fetches.Memory) refl h
+
+bind_falls_small : (b : Bound) → bind_falls b ≤ 1
+bind_falls_small (bounds.Code code) = omega arith
+bind_falls_small (bounds.Failed whys.Link) = omega arith
+bind_falls_small (bounds.Failed (whys.Bytes at)) = omega arith
+bind_falls_small (bounds.Failed (whys.Code code)) = omega arith
+bind_falls_small (bounds.Failed (whys.Message tag)) = omega arith
+bind_falls_small (bounds.Failed (whys.Flood count)) = omega arith
+bind_falls_small bounds.Memory = omega arith
+
+bind_fell : (b : Bound) → bind_falls b ≡ 1 → b ≡ bounds.Failed whys.Link
+bind_fell (bounds.Code code) h = none_is_one _ (bind_falls (bounds.Code code)) refl h
+bind_fell (bounds.Failed whys.Link) h = refl
+bind_fell (bounds.Failed (whys.Bytes at)) h = none_is_one _ (bind_falls (bounds.Failed (whys.Bytes at))) refl h
+bind_fell (bounds.Failed (whys.Code code)) h = none_is_one _ (bind_falls (bounds.Failed (whys.Code code))) refl h
+bind_fell (bounds.Failed (whys.Message tag)) h = none_is_one _ (bind_falls (bounds.Failed (whys.Message tag))) refl h
+bind_fell (bounds.Failed (whys.Flood count)) h = none_is_one _ (bind_falls (bounds.Failed (whys.Flood count))) refl h
+bind_fell bounds.Memory h = none_is_one _ (bind_falls bounds.Memory) refl h
+
+-- ---- moves
+
+-- the frame in front was passed: the bytes taken are the same
+frame_passed : (frames frame rest unread : List ℕ) → unread ≡ frame ++ rest → frames ++ unread ≡ (frames ++ frame) ++ rest
+frame_passed frames frame rest unread e = ap (λ (list : List ℕ). frames ++ list) e ∙ sym (append_assoc frames frame rest)
+
+not_failed : {b : Bool} → b ≡ false → b ≡ true → ⊥
+not_failed e f = cc
+
+heard_frame : (s : Stand) (e f : Engine) (seed : List ℕ) (config : Config) (before o p : Outside) → IsHeardTo s e before o → (h : HearsRequest seed config.settings e f o.left p.left) → o.reads ≤ p.reads
+    → IsHeardTo (moved seed config s (Hears h.request)) f before p
+heard_frame s e f seed config before o p heard h later = record {
+  consumed =
+      subst (λ (l : Option (List ℕ)). Consumes before.left l ((frames_of s.requests ++ frame_of h.request) ++ f.inbox.bytes)) (sym h.quiet)
+      (subst (Consumes before.left o.left)
+      (frame_passed (frames_of s.requests) (frame_of h.request) f.inbox.bytes e.inbox.bytes (h.frame.bytes ∙ ap (λ (x : Engine). frame_of h.request ++ x.inbox.bytes) (sym h.after)))
+      heard.consumed);
+  place =
+      ap (λ (x : Engine). x.inbox.place) h.after ∙ h.frame.place ∙ ap (λ (n : ℕ). n + length (frame_of h.request)) heard.place
+      ∙ sym (length-append (frames_of s.requests) (frame_of h.request));
+  stops = ap (λ (x : Engine). x.stops) h.after;
+  reads = omega (arith, heard.reads, later);
+}
+
+heard_bytes : (s : Stand) (e f : Engine) (before o p : Outside) → IsHeardTo s e before o → (h : HearsBytes e f o.left p.left) → o.reads ≤ p.reads → IsHeardTo s f before p
+heard_bytes s e f before o p heard h later =
+    let bytes : f.inbox.bytes ≡ e.inbox.bytes ++ h.taken.piece = ap (λ (x : Engine). x.inbox.bytes) h.after ∙ ap (λ (u : Unread). u.bytes) h.taken.bytes in
+    record {
+      consumed =
+          subst (Consumes before.left p.left) (append_assoc (frames_of s.requests) e.inbox.bytes h.taken.piece ∙ ap (λ (list : List ℕ). frames_of s.requests ++ list) (sym bytes))
+          (Consumes-trans _ _ _ _ _ heard.consumed h.taken.consumed);
+      place = ap (λ (x : Engine). x.inbox.place) h.after ∙ ap (λ (u : Unread). u.place) h.taken.bytes ∙ heard.place;
+      stops = ap (λ (x : Engine). x.stops) h.after ∙ heard.stops;
+      reads = omega (arith, heard.reads, later);
+    }
+
+-- nothing was heard
+pub record SameHeard (e f : Engine) (o p : Outside) : Type 0 where
+  pub inbox : f.inbox ≡ e.inbox
+  pub stops : f.stops ≡ e.stops
+  pub left : p.left ≡ o.left
+  pub reads : p.reads ≡ o.reads
+
+heard_on : (s t : Stand) (e f : Engine) (before o p : Outside) → t.requests ≡ s.requests → IsHeardTo s e before o → SameHeard e f o p → IsHeardTo t f before p
+heard_on s t e f before o p requests heard same = record {
+  consumed =
+      subst (λ (l : Option (List ℕ)). Consumes before.left l (frames_of t.requests ++ f.inbox.bytes)) (sym same.left)
+      (subst (λ (u : Unread). Consumes before.left o.left (frames_of t.requests ++ u.bytes)) (sym same.inbox)
+      (subst (λ (rs : List Request). Consumes before.left o.left (frames_of rs ++ e.inbox.bytes)) (sym requests) heard.consumed));
+  place = ap (λ (u : Unread). u.place) same.inbox ∙ heard.place ∙ ap (λ (rs : List Request). length (frames_of rs)) (sym requests);
+  stops = same.stops ∙ heard.stops ∙ ap (λ (rs : List Request). last_stops rs) (sym requests);
+  reads = subst (λ (n : ℕ). before.reads ≤ n) (sym same.reads) heard.reads;
+}
+
+-- nothing was written
+pub record SameWritten (e f : Engine) (o p : Outside) : Type 0 where
+  pub held : p.held ≡ o.held
+  pub failed : f.has_failed ≡ true → e.has_failed ≡ true
+  pub writes : o.writes ≤ p.writes
+
+written_on : (s t : Stand) (e f : Engine) (before o p : Outside) → t.written ≡ s.written → IsWrittenTo s e before o → SameWritten e f o p → IsWrittenTo t f before p
+written_on s t e f before o p as_written written same = record {
+  written =
+      subst (λ (l : Option (List ℕ)). Appends before.held l t.written) (sym same.held)
+      (subst (Appends before.held o.held) (sym as_written) written.written);
+  failed = λ failed. let rose = written.failed (same.failed failed) in omega (arith, rose, same.writes);
+  writes = omega (arith, written.writes, same.writes);
+}
+
+asked_on : (s t : Stand) (before d e : Dialling) → t.operations ≡ s.operations → t.falls ≡ s.falls → e ≡ d → IsAskedTo s before d → IsAskedTo t before e
+asked_on s t before d e operations falls same asked = record {
+  operations = ap (λ (x : Dialling). x.operations) same ∙ asked.operations ∙ ap (with_operations before.operations) (sym operations);
+  behind = λ i. ap (λ (x : Dialling). x.behind i) same ∙ asked.behind i;
+  falls = subst (λ (x : Dialling). CountsFalls before.faults t.falls x.faults) (sym same) (subst (λ (n : ℕ). CountsFalls before.faults n d.faults) (sym falls) asked.falls);
+  later = subst (λ (x : Dialling). HasNotFallen before.faults x.faults) (sym same) asked.later;
+}
+
+-- ---- turns without a request in hand
+
+pub stands_hears : (seed : List ℕ) (config : Config) (d : Daemon) (before : Outside) (e f : Engine) (daemon : Daemon) (o p : Outside) → Stands seed config d before e daemon o → e.client ≡ None
+    → HearsRequest seed config.settings e f o.left p.left → o.reads ≤ p.reads → p.held ≡ o.held → o.writes ≤ p.writes → p.readings ≡ o.readings → p.dialling ≡ o.dialling
+    → Stands seed config d before f daemon p
+stands_hears seed config d before e f daemon o p s none h reads held writes readings dialling =
+    let s0 : Stand = stand_after seed config d s.moves in
+    let t : Stand = moved seed config s0 (Hears h.request) in
+    record {
+      moves = Hears h.request ∷ s.moves;
+      may = (sym s.hand.client ∙ none, s.may);
+      hand = record {
+        same = s.hand.same;
+        client = ap (λ (x : Engine). x.client) h.after;
+        in_hand = subst (λ (x : Engine). IfSome x.client (IsInHand seed daemon.past)) (sym h.after) (record { salted = refl; known = begun_is_known daemon.past config.settings h.request });
+      };
+      heard = heard_frame s0 e f seed config before o p s.heard h reads;
+      written = written_on s0 t e f before o p refl s.written (record { held = held; failed = λ failed. absurd (not_failed (ap (λ (x : Engine). x.has_failed) h.after) failed); writes = writes });
+      readings = subst (ReadsOn before.readings s0.moments) (sym readings) s.readings;
+      asked = asked_on s0 t before.dialling o.dialling p.dialling refl refl dialling s.asked;
+    }
+
+pub stands_takes : (seed : List ℕ) (config : Config) (d : Daemon) (before : Outside) (e f : Engine) (daemon : Daemon) (o p : Outside) → Stands seed config d before e daemon o
+    → HearsBytes e f o.left p.left → o.reads ≤ p.reads → p.held ≡ o.held → o.writes ≤ p.writes → p.readings ≡ o.readings → p.dialling ≡ o.dialling
+    → Stands seed config d before f daemon p
+stands_takes seed config d before e f daemon o p s h reads held writes readings dialling =
+    let s0 : Stand = stand_after seed config d s.moves in
+    record {
+      moves = s.moves;
+      may = s.may;
+      hand = record {
+        same = s.hand.same;
+        client = ap (λ (x : Engine). x.client) h.after ∙ s.hand.client;
+        in_hand = subst (λ (x : Engine). IfSome x.client (IsInHand seed daemon.past)) (sym h.after) s.hand.in_hand;
+      };
+      heard = heard_bytes s0 e f before o p s.heard h reads;
+      written = written_on s0 s0 e f before o p refl s.written (record { held = held; failed = λ failed. sym (ap (λ (x : Engine). x.has_failed) h.after) ∙ failed; writes = writes });
+      readings = subst (ReadsOn before.readings s0.moments) (sym readings) s.readings;
+      asked = asked_on s0 s0 before.dialling o.dialling p.dialling refl refl dialling s.asked;
+    }
+
+-- ---- turns with a request in hand
+
+-- what stays outside of a turn that only serves
+pub record Quiet (o p : Outside) : Type 0 where
+  pub left : p.left ≡ o.left
+  pub reads : p.reads ≡ o.reads
+  pub readings : p.readings ≡ o.readings
+
+in_hand_as : (seed : List ℕ) (past : List Entry) (e : Engine) (c : Client) → e.client ≡ Some c → IfSome e.client (IsInHand seed past) → IsInHand seed past c
+in_hand_as seed past e c is hand = subst (λ (o : Option Client). IfSome o (IsInHand seed past)) is hand
+
+same_heard : (e f : Engine) (o p : Outside) → f.inbox ≡ e.inbox → f.stops ≡ e.stops → Quiet o p → SameHeard e f o p
+same_heard e f o p inbox stops quiet = record { inbox = inbox; stops = stops; left = quiet.left; reads = quiet.reads }
+
+pub stands_named : (seed : List ℕ) (config : Config) (d : Daemon) (before : Outside) (e f : Engine) (daemon : Daemon) (o p : Outside) (c : Client) (about : Option ℕ) → Stands seed config d before e daemon o → e.client ≡ Some c
+    → f ≡ awaiting e c about → Quiet o p → p.held ≡ o.held → o.writes ≤ p.writes → p.dialling ≡ o.dialling → Stands seed config d before f daemon p
+stands_named seed config d before e f daemon o p c about s is new quiet held writes dialling =
+    let s0 : Stand = stand_after seed config d s.moves in
+    record {
+      moves = s.moves;
+      may = s.may;
+      hand = record {
+        same = s.hand.same;
+        client = ap (λ (x : Engine). x.client) new ∙ sym is ∙ s.hand.client;
+        in_hand = subst (λ (x : Engine). IfSome x.client (IsInHand seed daemon.past)) (sym new) (in_hand_as seed daemon.past e c is s.hand.in_hand);
+      };
+      heard = heard_on s0 s0 e f before o p refl s.heard (same_heard e f o p (ap (λ (x : Engine). x.inbox) new) (ap (λ (x : Engine). x.stops) new) quiet);
+      written = written_on s0 s0 e f before o p refl s.written (record { held = held; failed = λ failed. sym (ap (λ (x : Engine). x.has_failed) new) ∙ failed; writes = writes });
+      readings = subst (ReadsOn before.readings s0.moments) (sym quiet.readings) s.readings;
+      asked = asked_on s0 s0 before.dialling o.dialling p.dialling refl refl dialling s.asked;
+    }
+
+pub stands_fetches : (seed : List ℕ) (config : Config) (d : Daemon) (before : Outside) (e f : Engine) (daemon : Daemon) (o p : Outside) (c : Client) (server : ℕ) (key : Key) → Stands seed config d before e daemon o → e.client ≡ Some c
+    → need_of c ≡ needs.Fetch server key → GoesByFetch config server key (done e) c f o.dialling p.dialling → Quiet o p → p.held ≡ o.held → o.writes ≤ p.writes → Stands seed config d before f daemon p
+stands_fetches seed config d before e f daemon o p c server key s is needed g quiet held writes =
+    let s0 : Stand = stand_after seed config d s.moves in
+    let move : Move = Fetches g.fetched g.lookup.asked.operations in
+    let t : Stand = moved seed config s0 move in
+    let hand : IsInHand seed daemon.past c = in_hand_as seed daemon.past e c is s.hand.in_hand in
+    record {
+      moves = move ∷ s.moves;
+      may = (
+        record {
+          client = c;
+          in_hand = sym s.hand.client ∙ is;
+          server = server;
+          key = key;
+          needed = needed;
+          asked = g.lookup.asked.are;
+          told = λ b behind. g.lookup.told b (s.asked.behind server ∙ behind);
+        },
+        s.may,
+      );
+      hand = record {
+        same = s.hand.same;
+        client = ap (λ (x : Engine). x.client) g.after ∙ ap (option_map (λ (x : Client). client_fetched x g.fetched)) (sym is ∙ s.hand.client);
+        in_hand = subst (λ (x : Engine). IfSome x.client (IsInHand seed daemon.past)) (sym g.after) (record { salted = hand.salted; known = fetched_known daemon.past c.course g.fetched hand.known });
+      };
+      heard = heard_on s0 t e f before o p refl s.heard (same_heard e f o p (ap (λ (x : Engine). x.inbox) g.after) (ap (λ (x : Engine). x.stops) g.after) quiet);
+      written = written_on s0 t e f before o p refl s.written (record { held = held; failed = λ failed. sym (ap (λ (x : Engine). x.has_failed) g.after) ∙ failed; writes = writes });
+      readings = subst (ReadsOn before.readings s0.moments) (sym quiet.readings) s.readings;
+      asked = record {
+        operations = more_operations before.dialling.operations o.dialling.operations p.dialling.operations s0.operations g.lookup.asked.operations s.asked.operations g.lookup.asked.told;
+        behind = λ i. g.lookup.behind i ∙ s.asked.behind i;
+        falls = falls_more before.dialling.faults s0.falls o.dialling.faults p.dialling.faults (fetch_falls g.fetched) s.asked.falls g.lookup.later (fetch_falls_small g.fetched) (λ one. g.lookup.fallen (fetch_fell g.fetched one));
+        later = fallen_later _ _ _ s.asked.later g.lookup.later;
+      };
+    }
+
+pub stands_binds : (seed : List ℕ) (config : Config) (d : Daemon) (before : Outside) (e f : Engine) (daemon : Daemon) (o p : Outside) (c : Client) (server : ℕ) (dn password : List ℕ) → Stands seed config d before e daemon o → e.client ≡ Some c
+    → need_of c ≡ needs.Bind server dn password → GoesByBind server dn password (done e) c f o.dialling p.dialling → Quiet o p → p.held ≡ o.held → o.writes ≤ p.writes → Stands seed config d before f daemon p
+stands_binds seed config d before e f daemon o p c server dn password s is needed g quiet held writes =
+    let s0 : Stand = stand_after seed config d s.moves in
+    let move : Move = Binds g.bound g.bind.asked.operations in
+    let t : Stand = moved seed config s0 move in
+    let hand : IsInHand seed daemon.past c = in_hand_as seed daemon.past e c is s.hand.in_hand in
+    record {
+      moves = move ∷ s.moves;
+      may = (
+        record {
+          client = c;
+          in_hand = sym s.hand.client ∙ is;
+          server = server;
+          dn = dn;
+          password = password;
+          needed = needed;
+          asked = g.bind.asked.are;
+          told = λ b behind. g.bind.told b (s.asked.behind server ∙ behind);
+        },
+        s.may,
+      );
+      hand = record {
+        same = s.hand.same;
+        client = ap (λ (x : Engine). x.client) g.after ∙ ap (option_map (λ (x : Client). client_bound x g.bound)) (sym is ∙ s.hand.client);
+        in_hand = subst (λ (x : Engine). IfSome x.client (IsInHand seed daemon.past)) (sym g.after) (record { salted = hand.salted; known = bound_known c.seed daemon.past c.course g.bound hand.known });
+      };
+      heard = heard_on s0 t e f before o p refl s.heard (same_heard e f o p (ap (λ (x : Engine). x.inbox) g.after) (ap (λ (x : Engine). x.stops) g.after) quiet);
+      written = written_on s0 t e f before o p refl s.written (record { held = held; failed = λ failed. sym (ap (λ (x : Engine). x.has_failed) g.after) ∙ failed; writes = writes });
+      readings = subst (ReadsOn before.readings s0.moments) (sym quiet.readings) s.readings;
+      asked = record {
+        operations = more_operations before.dialling.operations o.dialling.operations p.dialling.operations s0.operations g.bind.asked.operations s.asked.operations g.bind.asked.told;
+        behind = λ i. g.bind.behind i ∙ s.asked.behind i;
+        falls = falls_more before.dialling.faults s0.falls o.dialling.faults p.dialling.faults (bind_falls g.bound) s.asked.falls g.bind.later (bind_falls_small g.bound) (λ one. g.bind.fallen (bind_fell g.bound one));
+        later = fallen_later _ _ _ s.asked.later g.bind.later;
+      };
+    }
+
+pub stands_tells : (seed : List ℕ) (config : Config) (d : Daemon) (before : Outside) (e f : Engine) (daemon : Daemon) (o p : Outside) (c : Client) (said : Said) → Stands seed config d before e daemon o → e.client ≡ Some c
+    → need_of c ≡ needs.Say said → IsTold config.pwfield said (done e) (client_told c) f o.held p.held → Quiet o p → o.writes ≤ p.writes → p.dialling ≡ o.dialling → Stands seed config d before f daemon p
+stands_tells seed config d before e f daemon o p c said s is needed g quiet writes dialling =
+    let s0 : Stand = stand_after seed config d s.moves in
+    let move : Move = Tells said in
+    let t : Stand = moved seed config s0 move in
+    let hand : IsInHand seed daemon.past c = in_hand_as seed daemon.past e c is s.hand.in_hand in
+    record {
+      moves = move ∷ s.moves;
+      may = (record { client = c; in_hand = sym s.hand.client ∙ is; needed = needed }, s.may);
+      hand = record {
+        same = s.hand.same;
+        client = ap (λ (x : Engine). x.client) g.after ∙ ap (option_map client_told) (sym is ∙ s.hand.client);
+        in_hand = subst (λ (x : Engine). IfSome x.client (IsInHand seed daemon.past)) (sym g.after) (record { salted = hand.salted; known = told_known daemon.past c.course hand.known });
+      };
+      heard = heard_on s0 t e f before o p refl s.heard (same_heard e f o p (ap (λ (x : Engine). x.inbox) g.after) (ap (λ (x : Engine). x.stops) g.after) quiet);
+      written = record {
+        written = Appends-trans _ _ _ _ _ s.written.written g.written;
+        failed = λ failed. let rose = s.written.failed (sym (ap (λ (x : Engine). x.has_failed) g.after) ∙ failed) in omega (arith, rose, writes);
+        writes = omega (arith, s.written.writes, writes);
+      };
+      readings = subst (ReadsOn before.readings s0.moments) (sym quiet.readings) s.readings;
+      asked = asked_on s0 t before.dialling o.dialling p.dialling refl refl dialling s.asked;
+    }
+
+pub stands_breaks : (seed : List ℕ) (config : Config) (d : Daemon) (before : Outside) (e f : Engine) (daemon : Daemon) (o p : Outside) (c : Client) (said : Said) → Stands seed config d before e daemon o → e.client ≡ Some c
+    → need_of c ≡ needs.Say said → IsUntold config.pwfield said (done e) (client_told c) f o.held p.held (Rose o.writes p.writes) → Quiet o p → o.writes ≤ p.writes → p.dialling ≡ o.dialling → Stands seed config d before f daemon p
+stands_breaks seed config d before e f daemon o p c said s is needed g quiet writes dialling =
+    let s0 : Stand = stand_after seed config d s.moves in
+    let move : Move = Breaks said g.written.0 in
+    let t : Stand = moved seed config s0 move in
+    let hand : IsInHand seed daemon.past c = in_hand_as seed daemon.past e c is s.hand.in_hand in
+    record {
+      moves = move ∷ s.moves;
+      may = (record { client = c; in_hand = sym s.hand.client ∙ is; needed = needed }, s.may);
+      hand = record {
+        same = s.hand.same;
+        client = ap (λ (x : Engine). x.client) g.after ∙ ap (option_map client_told) (sym is ∙ s.hand.client);
+        in_hand = subst (λ (x : Engine). IfSome x.client (IsInHand seed daemon.past)) (sym g.after) (record { salted = hand.salted; known = told_known daemon.past c.course hand.known });
+      };
+      heard = heard_on s0 t e f before o p refl s.heard (same_heard e f o p (ap (λ (x : Engine). x.inbox) g.after) (ap (λ (x : Engine). x.stops) g.after) quiet);
+      written = record {
+        written = Appends-trans _ _ _ _ _ s.written.written g.written.2;
+        failed = λ failed. omega (arith, g.fault, s.written.writes);
+        writes = omega (arith, s.written.writes, writes);
+      };
+      readings = subst (ReadsOn before.readings s0.moments) (sym quiet.readings) s.readings;
+      asked = asked_on s0 t before.dialling o.dialling p.dialling refl refl dialling s.asked;
+    }
+
+pub stands_finishes : (seed : List ℕ) (config : Config) (d : Daemon) (before : Outside) (e f : Engine) (daemon : Daemon) (o p : Outside) (c : Client) → Stands seed config d before e daemon o → e.client ≡ Some c
+    → need_of c ≡ needs.End → f ≡ done e → Quiet o p → p.held ≡ o.held → o.writes ≤ p.writes → p.dialling ≡ o.dialling → Stands seed config d before f daemon p
+stands_finishes seed config d before e f daemon o p c s is needed new quiet held writes dialling =
+    let s0 : Stand = stand_after seed config d s.moves in
+    let t : Stand = moved seed config s0 Finishes in
+    record {
+      moves = Finishes ∷ s.moves;
+      may = (record { client = c; in_hand = sym s.hand.client ∙ is; needed = needed }, s.may);
+      hand = record {
+        same = s.hand.same;
+        client = ap (λ (x : Engine). x.client) new;
+        in_hand = subst (λ (x : Engine). IfSome x.client (IsInHand seed daemon.past)) (sym new) tt;
+      };
+      heard = heard_on s0 t e f before o p refl s.heard (same_heard e f o p (ap (λ (x : Engine). x.inbox) new) (ap (λ (x : Engine). x.stops) new) quiet);
+      written = written_on s0 t e f before o p refl s.written (record { held = held; failed = λ failed. sym (ap (λ (x : Engine). x.has_failed) new) ∙ failed; writes = writes });
+      readings = subst (ReadsOn before.readings s0.moments) (sym quiet.readings) s.readings;
+      asked = asked_on s0 t before.dialling o.dialling p.dialling refl refl dialling s.asked;
+    }
+
+-- ---- steps
+
+given_by_made : (d : Daemon) (now : ℕ) (event : Event) (c : Client) (gave : Given) (s : Stand) (h : Option Client) → d ≡ s.daemon → gave ≡ given d now event → h ≡ s.client → h ≡ Some c
+    → Some (client_replied c gave) ≡ option_map (λ (x : Client). client_replied x (given s.daemon now event)) s.client
+given_by_made d now event c gave s h same is hand some =
+    ap (λ (g : Given). Some (client_replied c g)) (is ∙ ap (λ (x : Daemon). given x now event) same)
+    ∙ ap (option_map (λ (x : Client). client_replied x (given s.daemon now event))) (sym some ∙ hand)
+
+pub stands_steps : (seed : List ℕ) (config : Config) (d : Daemon) (before : Outside) (e f : Engine) (daemon daemon' : Daemon) (o p : Outside) (c : Client) (event : Event) (gave : Given) → Stands seed config d before e daemon o → e.client ≡ Some c
+    → event_of (need_of c) ≡ Some event → is_steppable daemon.past event ≡ true → IsMade daemon event gave daemon' o.readings p.readings → KeepsKeys daemon.past daemon'.past → f ≡ replied e c gave
+    → p ≡ record o { readings = p.readings } → Stands seed config d before f daemon' p
+stands_steps seed config d before e f daemon daemon' o p c event gave s is needed may m keeps new same =
+    let s0 : Stand = stand_after seed config d s.moves in
+    let move : Move = Steps m.now event in
+    let t : Stand = moved seed config s0 move in
+    let hand : IsInHand seed daemon.past c = in_hand_as seed daemon.past e c is s.hand.in_hand in
+    let keeps_made : KeepsKeys daemon.past (after daemon m.now event).past = subst (λ (x : Daemon). KeepsKeys daemon.past x.past) m.made keeps in
+    let known : IsKnown (after daemon m.now event).past (client_replied c gave).course = known_after c.seed daemon m.now c.course event gave m.gives needed keeps_made hand.known in
+    record {
+      moves = move ∷ s.moves;
+      may = (
+        record {
+          client = c;
+          in_hand = sym s.hand.client ∙ is;
+          needed = needed;
+          steppable = subst (λ (x : Daemon). is_steppable x.past event ≡ true) s.hand.same may;
+          room = subst (λ (x : Daemon). is_full x event ≡ false) s.hand.same m.room;
+        },
+        s.may,
+      );
+      hand = record {
+        same = m.made ∙ ap (λ (x : Daemon). after x m.now event) s.hand.same;
+        client = ap (λ (x : Engine). x.client) new ∙ given_by_made daemon m.now event c gave s0 e.client s.hand.same m.gives s.hand.client is;
+        in_hand = subst (λ (x : Engine). IfSome x.client (IsInHand seed daemon'.past)) (sym new)
+            (record { salted = hand.salted; known = subst (λ (x : Daemon). IsKnown x.past (client_replied c gave).course) (sym m.made) known });
+      };
+      heard = heard_on s0 t e f before o p refl s.heard (record { inbox = ap (λ (x : Engine). x.inbox) new; stops = ap (λ (x : Engine). x.stops) new; left = ap (λ (x : Outside). x.left) same; reads = ap (λ (x : Outside). x.reads) same });
+      written = written_on s0 t e f before o p refl s.written
+          (record { held = ap (λ (x : Outside). x.held) same; failed = λ failed. sym (ap (λ (x : Engine). x.has_failed) new) ∙ failed; writes = subst (λ (x : Outside). o.writes ≤ x.writes) (sym same) (omega arith) });
+      readings = reads_more before.readings o.readings p.readings s0.moments m.now s.readings m.read;
+      asked = asked_on s0 t before.dialling o.dialling p.dialling refl refl (ap (λ (x : Outside). x.dialling) same) s.asked;
+    }

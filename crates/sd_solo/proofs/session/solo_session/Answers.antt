@@ -1,0 +1,13 @@
+use Rattle.sd_solo.proofs.Opening.{grown_itself}
+use Rattle.sd_solo.proofs.session.solo_session.Goals as goal
+
+pub returns-clause-session : goal.returns-clause-session
+returns-clause-session g c = record {
+  between = c.run-end.new.core;
+  readings = g.C.Clock.readings c.run-end.new.clock;
+  ran = c.run-end.ensures.ran;
+  withdraws = c.give_up.ensures.withdraws;
+}
+
+pub returns-clause-journal : goal.returns-clause-journal
+returns-clause-journal g c = c.give_up.ensures.grown _ (c.run-end.ensures.grown _ (grown_itself c.args.core.now))

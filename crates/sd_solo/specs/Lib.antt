@@ -1,0 +1,4 @@
+pub mod Sessions
+pub mod Stepping
+pub mod Running
+pub mod Withdrawing
