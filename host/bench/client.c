@@ -1,6 +1,7 @@
 /* client KIND PLACE COMMAND: asks for users by name and measures, in one way whatever is asked.
  *
- *   KIND PLACE   `frames SOCKET`: a daemon by its frames; `module FILE`: an NSS module, by its getpwnam_r;
+ *   KIND PLACE   `frames SOCKET`: a daemon by its frames; `anew SOCKET`: the same by a connection for each question,
+ *                as the NSS module asks; `module FILE`: an NSS module, by its getpwnam_r;
  *                `libc -`: the C library, which asks the daemon nscd where its socket is
  *   COMMAND      `loop CLIENTS SECONDS PREFIX COUNT`   each client asks again and again for PREFIX and a number below COUNT
  *                `each PREFIX FROM COUNT`              one client asks for so many names, one after the other
@@ -47,7 +48,9 @@ struct shared {
 typedef enum nss_status lookup(const char *, struct passwd *, char *, size_t, int *);
 
 static const char *place;
-static enum { FRAMES, MODULE, LIBC } kind;
+enum kind { FRAMES, ANEW, MODULE, LIBC };
+
+static enum kind kind;
 static lookup *ask_module;
 static int connection = -1;
 
@@ -137,14 +140,16 @@ static bool ask_by_frame(const char *name)
 {
     static char reply[ROOM];
     struct request request;
+    bool is_whole;
 
     if (!request_by_name(&request, COMMAND_USER, name) || (connection < 0 && !connect_to_place()))
         return false;
-    if (send(connection, request.bytes, request.length, MSG_NOSIGNAL) == (ssize_t)request.length && receive_reply(reply))
-        return memcmp(reply + 4, "found ", 6) == 0 || memcmp(reply + 4, "old ", 4) == 0;
-    close(connection);
-    connection = -1;
-    return false;
+    is_whole = send(connection, request.bytes, request.length, MSG_NOSIGNAL) == (ssize_t)request.length && receive_reply(reply);
+    if (!is_whole || kind == ANEW) {
+        close(connection);
+        connection = -1;
+    }
+    return is_whole && (memcmp(reply + 4, "found ", 6) == 0 || memcmp(reply + 4, "old ", 4) == 0);
 }
 
 static bool ask(const char *name)
@@ -155,6 +160,7 @@ static bool ask(const char *name)
 
     switch (kind) {
     case FRAMES:
+    case ANEW:
         return ask_by_frame(name);
     case MODULE:
         return ask_module(name, &user, buffer, sizeof buffer, &fault) == NSS_STATUS_SUCCESS;
@@ -316,6 +322,17 @@ static int ask_first(const char *name)
     return 1;
 }
 
+static enum kind kind_of(const char *word)
+{
+    static const char *const words[] = { [FRAMES] = "frames", [ANEW] = "anew", [MODULE] = "module", [LIBC] = "libc" };
+
+    for (enum kind one = FRAMES; one <= LIBC; one++)
+        if (strcmp(words[one], word) == 0)
+            return one;
+    fail("no such kind");
+    return LIBC;
+}
+
 int main(int count, char **words)
 {
     const char *command = count > 3 ? words[3] : "";
@@ -323,7 +340,7 @@ int main(int count, char **words)
 
     alarm(SECONDS_AT_MOST);
     if (count > 3) {
-        kind = strcmp(words[1], "frames") == 0 ? FRAMES : strcmp(words[1], "module") == 0 ? MODULE : LIBC;
+        kind = kind_of(words[1]);
         place = words[2];
         words += 4;
     }
@@ -335,6 +352,6 @@ int main(int count, char **words)
         return run_clients(atoi(words[0]), 0, words[1], 1);
     if (strcmp(command, "first") == 0 && left == 1)
         return ask_first(words[0]);
-    fprintf(stderr, "client frames SOCKET|module FILE|libc - loop|each|burst|first ..\n");
+    fprintf(stderr, "client frames SOCKET|anew SOCKET|module FILE|libc - loop|each|burst|first ..\n");
     return 2;
 }

@@ -1,8 +1,9 @@
 #!/usr/bin/env python3
 """frame.py SOCKET WORD [TEXT..]: sends one request as the daemon's frames have it, and prints the reply.
 
-WORD is user, uid, group, gid, groups, login, access, void-all, void-user, offline, online or stop. After `stop` it connects
-once more, so that a daemon which waits for a connection sees that it is to end."""
+WORD is user, uid, group, gid, groups, login, access, void-all, void-user, offline, online or stop. A login whose
+password is not among the texts has the first line of standard input. After `stop` it connects once more, so that a
+daemon which waits for a connection sees that it is to end."""
 import socket
 import struct
 import sys
@@ -39,12 +40,17 @@ def frame(word, *texts):
 
 def main():
     path, word, *texts = sys.argv[1:]
+    if word == "login" and len(texts) == 1:
+        texts.append(sys.stdin.readline().rstrip("\n"))
     with socket.socket(socket.AF_UNIX) as connection:
-        connection.settimeout(10)
-        connection.connect(path)
-        connection.sendall(frame(word, *texts))
-        length = struct.unpack(">I", exact(connection, 4))[0]
-        print(exact(connection, length).decode("utf-8", "replace"))
+        connection.settimeout(20)
+        try:
+            connection.connect(path)
+            connection.sendall(frame(word, *texts))
+            length = struct.unpack(">I", exact(connection, 4))[0]
+            print(exact(connection, length).decode("utf-8", "replace"))
+        except OSError:
+            sys.exit("no reply")
     if word == "stop":
         with socket.socket(socket.AF_UNIX) as connection:
             connection.connect_ex(path)
