@@ -7,8 +7,8 @@ ghost use Rattle.sd_core.specs.Laws as laws;
 ghost use Rattle.sd_desk.specs.Steps.{HasBoundedTexts, WasFull};
 
 use crate::counts::Counts;
-use sd_core::Core;
 use sd_base::Memory;
+use sd_core::Core;
 use sd_rules::{Entry, Event, Given, Journal, Refused, Settings, StepFault};
 use sd_turn::Chronicle;
 

@@ -15,5 +15,5 @@ returns-clause-forgot g c =
     let given_back : front c.args.self.now c.give.new.seat ≡ c.forget-dropped.new.self.core = search rules in
     forgot_if_ok (front c.args.self.now c.args.seat.now) c.value.result.now.core c.forget-dropped.new.self.core (front c.args.self.now c.give.new.seat) c.forget-dropped.result
     (subst (λ (d : Daemon). Reaches (front c.args.self.now c.args.seat.now) d) (sym same)
-      (subst (λ (f : Daemon). Reaches f c.take-held.result.value.core) c.take-held.ensures.front c.take-held.ensures.holds.reached))
+    (subst (λ (f : Daemon). Reaches f c.take-held.result.value.core) c.take-held.ensures.front c.take-held.ensures.holds.reached))
     given_back c.forget-dropped.ensures.forgotten c.forget-dropped.ensures.back
