@@ -3,3 +3,4 @@ pub mod Texts
 pub mod Reached
 pub mod Counted
 pub mod Made
+pub mod Giving

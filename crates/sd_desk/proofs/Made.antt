@@ -1,6 +1,6 @@
 -- What a step under the turn says of the front before the turn was taken.
 use Rattle.std.proofs.Common.{◌≡◌, ℕ, Bool, true, false, List, [], ◌∷◌, ◌<◌, arith, sym, ap, subst, refl, ◌∙◌}
-use Rattle.std.specs.Prelude.{Result, Ok, Err, IfOk, IsOk, OnErr, Option, Some, None, not, ◌&&◌, ◌||◌, if◌then◌else◌}
+use Rattle.std.specs.Prelude.{Result, Ok, Err, IfOk, IsOk, OnOk, OnErr, reverse, Option, Some, None, not, ◌&&◌, ◌||◌, if◌then◌else◌}
 use Rattle.sd_turn.specs.declared.view.History.{History}
 use Rattle.sd_turn.specs.Histories.{with_entry}
 use Rattle.sd_rules.specs.declared.events.Event.TheVariants.{Collect}
@@ -12,7 +12,9 @@ use Rattle.sd_rules.specs.declared.events.Event.{Event}
 use Rattle.sd_rules.specs.declared.replies.Entry.{Entry}
 use Rattle.sd_rules.specs.declared.replies.Given.{Given}
 use Rattle.sd_rules.specs.declared.replies.Refused.{Refused}
-use Rattle.sd_rules.specs.Reaching.{Reaches}
+use Rattle.sd_base.specs.declared.Memory.{Memory}
+use Rattle.sd_rules.specs.Needed.{forgotten}
+use Rattle.sd_rules.specs.Reaching.{Reaches, after_forget}
 use Rattle.sd_rules.specs.Requests.{waits_for, is_open_request, outcome_of, is_took}
 use Rattle.sd_rules.specs.Steps.{Daemon, entry_made, after, reply_to_collect, lacks_places, lacks_text, lacks_numbers}
 use Rattle.sd_core.specs.declared.plain.Look.TheVariants.{Running, Closed}
@@ -24,7 +26,7 @@ use Rattle.sd_desk.specs.declared.refusals.CollectFault.{CollectFault}
 use Rattle.sd_desk.specs.declared.refusals.CollectFault.TheVariants as collect
 use Rattle.sd_desk.specs.Faults.{collect_fault}
 use Rattle.sd_desk.specs.Journals.{history_of}
-use Rattle.sd_desk.specs.Steps.{MadeOver, MadeEntry, WasFull, IsPending}
+use Rattle.sd_desk.specs.Steps.{MadeOver, MadeEntry, Forgot, WasFull, IsPending}
 use Rattle.sd_desk.proofs.Journals.{history_more}
 
 pub made_at : (old before new : Daemon) (first between last : List Entry) (now : ℕ) (event : Event) (g : Given) → Reaches old before → between ≡ first →
@@ -93,3 +95,8 @@ pub not_closing : (b : Bool) (r : Result Given Refused) → (b ≡ true → IsOk
 not_closing b (Ok g) made = tt
 not_closing true (Err refused) made = let e = made refl in let clash : ⊥ = cc in absurd clash
 not_closing false (Err refused) made = refl
+
+pub forgot_if_ok : (old before later new : Daemon) (r : Result (List Entry) Memory) → Reaches old before → new ≡ later → OnOk r (later ≡ after_forget before) →
+    IfOk r (λ others. reverse others ≡ forgotten before.past) → IfOk r (Forgot old new)
+forgot_if_ok old before later new (Ok others) to same made back = record { before = before; reached = to; front = same ∙ made; others_are = back }
+forgot_if_ok old before later new (Err memory) to same made back = tt

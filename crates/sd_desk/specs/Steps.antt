@@ -77,7 +77,7 @@ pub record Forgot (old new : Daemon) (others : List Entry) : Type 0 where
   pub before : Daemon
   pub reached : Reaches old before
   pub front : new ≡ after_forget before
-  pub others_are : others ≡ reverse (forgotten before.past)
+  pub others_are : reverse others ≡ forgotten before.past
 
 -- A ticket waits for a request, which is open.
 pub record IsPending (past : List Entry) (ticket request : ℕ) : Type 0 where

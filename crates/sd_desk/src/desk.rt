@@ -9,7 +9,7 @@ use sd_base::Memory;
 use sd_conf::Config;
 use sd_core::{Core, Look};
 use sd_creds::Salts;
-use sd_rules::{Event, Given, Refused, Rows, StepFault};
+use sd_rules::{Event, Given, Journal, Refused, Rows, StepFault};
 use sd_turn::{Busy, Held, Turn, TurnHeld};
 use std::alloc::Global;
 use std::sync::Wait;
@@ -37,7 +37,7 @@ impl Desk {
     ghost use Rattle.sd_rules.specs.Requests.{waits_for};
     ghost use Rattle.sd_desk.specs.Desks.{opening, front, mine, name, splits, out, takes, found, IsOwn, HoldsNoTurn, IsSameSeat, HasWon, SameTries, IsFirst, IsSplit, IsJoined, numbers, config_of, salts_of};
     ghost use Rattle.sd_desk.specs.Holding.{Holds, MayGive};
-    ghost use Rattle.sd_desk.specs.Steps.{MayStep, MadeOver, MadeEntry, Collected, WasFull, IsPending, most_text};
+    ghost use Rattle.sd_desk.specs.Steps.{MayStep, MadeOver, MadeEntry, Collected, Forgot, WasFull, IsPending, most_text};
 
     fn try_take(&self, seat: &mut DeskSeat) -> Result<Held<SharedCore>, Busy>
         requires own { IsOwn self.now seat.old }
@@ -261,6 +261,24 @@ impl Desk {
         let stopping = held.value().core.stopping();
         self.give(seat, held);
         stopping
+    }
+
+    /// Forgets what no later event can look at, and hands it back, the oldest first. For want of memory all is kept.
+    pub fn forget<R: Wait>(&self, rt: &R, seat: &mut DeskSeat) -> Result<Journal, Memory>
+        requires own { IsOwn self.now seat.old }
+        requires free { HoldsNoTurn seat.old }
+        ensures own { IsOwn self.now seat.new }
+        ensures free { HoldsNoTurn seat.new }
+        ensures same { IsSameSeat seat.old seat.new }
+        ensures won { HasWon seat.old seat.new }
+        ensures reaches { Reaches (front self.now seat.old) (front self.now seat.new) }
+        ensures mine { mine seat.new ≡ mine seat.old }
+        ensures forgot { IfOk result (Forgot (front self.now seat.old) (front self.now seat.new)) }
+    {
+        let mut held = self.take(rt, seat);
+        let dropped = held.value().forget();
+        self.give(seat, held);
+        dropped
     }
 
     /// The rows that are kept of the journal over a restart.

@@ -1,13 +1,15 @@
 //! The core, as the turn shares it.
-ghost use Rattle.std.specs.Prelude.{◌≡◌, ℕ, ◌<◌, true, false, IfOk, IfErr, OnOk, OnErr, length};
+ghost use Rattle.std.specs.Prelude.{◌≡◌, ℕ, ◌<◌, true, false, IfOk, IfErr, OnOk, OnErr, length, reverse};
+ghost use Rattle.sd_rules.specs.Needed as needed;
 ghost use Rattle.sd_rules.specs.Reaching as reaching;
 ghost use Rattle.sd_rules.specs.Steps as steps;
 ghost use Rattle.sd_core.specs.Laws as laws;
 ghost use Rattle.sd_desk.specs.Steps.{HasBoundedTexts, WasFull};
 
 use crate::counts::Counts;
+use sd_base::Memory;
 use sd_core::Core;
-use sd_rules::{Entry, Event, Given, Refused, Settings, StepFault};
+use sd_rules::{Entry, Event, Given, Journal, Refused, Settings, StepFault};
 use sd_turn::Chronicle;
 
 /// What no step and no forget changes. Contracts alone read it: no value is made.
@@ -96,5 +98,18 @@ impl SharedCore {
         // The core's texts are bounded, and so are those of what it gives.
         self.core.next_number();
         self.core.step(now, event)
+    }
+
+    /// Forgets what no later event can look at, and hands it back, the oldest first. For want of memory all is kept.
+    pub(crate) fn forget(&mut self) -> Result<Journal, Memory>
+        ensures forgotten { OnOk result (self.new.core ≡ reaching.after_forget self.old.core) }
+        ensures back { IfOk result (λ dropped. reverse dropped ≡ needed.forgotten self.old.core.past) }
+        ensures unchanged { OnErr result (self.new.core ≡ self.old.core) }
+        ensures reached { reaching.Reaches self.old.core self.new.core }
+        ensures basis { (self.new.core.settings ≡ self.old.core.settings) × (self.new.core.floor ≡ self.old.core.floor) × (self.new.core.next ≡ self.old.core.next) }
+    {
+        let dropped = self.core.forget()?;
+        self.left = self.core.journal().len();
+        Ok(dropped)
     }
 }

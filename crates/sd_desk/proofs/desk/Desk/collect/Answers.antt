@@ -10,7 +10,14 @@ use Rattle.sd_desk.specs.declared.shared.SharedCore.{SharedCore}
 use Rattle.sd_desk.specs.Desks.{front, mine, found}
 use Rattle.sd_desk.specs.Steps.{MadeOver, WasFull, IsPending}
 use Rattle.sd_desk.proofs.Made.{pending_runs, full_waits_not, full_was}
+use Rattle.sd_desk.specs.Holding.{MayGive}
+use Rattle.sd_desk.proofs.Giving.{may_give}
 use Rattle.sd_desk.proofs.desk.Desk.collect.Goals as goal
+
+pub give-requires : goal.give-requires
+give-requires c =
+    let same : c.value.result.now.core ≡ c.in-Ok.held.value.core = ap (λ (v : SharedCore). v.core) c.value.ensures.value in
+    subst (MayGive c.args.self.now c.try_take.new.seat) (sym same) (may_give c.args.self.now c.try_take.new.seat c.in-Ok.held.value.core c.in-Ok.ensures.holds)
 
 pub returns-in-Ok-step_held-clause-made : goal.returns-in-Ok-step_held-clause-made
 returns-in-Ok-step_held-clause-made c =
