@@ -1,0 +1,2 @@
+pub mod SpokenLaws
+pub mod GrowingLaws
