@@ -10,7 +10,8 @@ use crate::rows::print_rows;
 use crate::words::Words;
 use sd_base::{Copied, Memory};
 use sd_core::{Core, OpenFault, PlainCore};
-use sd_rules::{Event, Given, Journal, Refused, Rows, Settings, StepFault};
+use sd_restart::restart;
+use sd_rules::{Event, Given, Refused, Rows, Settings, StepFault};
 use std::alloc::Global;
 
 /// The two cores, which are to answer alike.
@@ -86,25 +87,6 @@ fn kept(core: &Core, plain: &PlainCore) -> Result<Option<Rows>, Memory>
     }
 }
 
-/// What both cores forget, where they forget the same.
-fn forgotten(core: &mut Core, plain: &mut PlainCore) -> Result<Option<Journal>, Memory> {
-    let entries = core.forget()?;
-    if entries == plain.forget()? {
-        Ok(Some(entries))
-    } else {
-        Ok(None)
-    }
-}
-
-/// Prints the numbers of the entries that were forgotten.
-fn print_forgotten(out: &mut Vec<u8>, entries: &Journal) -> Result<(), Memory> {
-    print(out, b"forget")?;
-    for entry in entries.items() {
-        print_number(out, entry.number)?;
-    }
-    print(out, b"\n")
-}
-
 impl Cores {
     /// Both cores, opened with the same rows.
     fn open_with(alloc: Global, settings: Settings, rows: Rows) -> Result<Cores, OpenFault>
@@ -132,18 +114,12 @@ impl Cores {
         }
     }
 
-    /// Lets both cores forget, and prints the numbers of the entries that they hand back.
-    pub fn forget(&mut self, out: &mut Vec<u8>) -> Result<(), Memory> {
-        match forgotten(&mut self.core, &mut self.plain)? {
-            Some(entries) => print_forgotten(out, &entries),
-            None => print_line(out, b"the cores forget different entries"),
-        }
-    }
-
     /// Opens both cores again with the rows that they keep, as a restart does.
     pub fn reopen(&mut self, alloc: Global) -> Result<(), OpenFault> {
+        let settings = few_servers(self.settings.copy()?);
         if let Some(rows) = kept(&self.core, &self.plain)? {
-            *self = Cores::open_with(alloc, self.settings.copy()?, rows)?;
+            self.plain = PlainCore::open(alloc, settings.copy()?, rows)?;
+            self.core = restart(alloc, &self.core, settings)?;
         }
         Ok(())
     }

@@ -1,8 +1,8 @@
 // Plays worked journals on both cores: standard input has settings and steps, standard output gets the entries that they make.
 //
-// A line `settings ..` begins a journal (settings.rt says what it holds); any other line is a step, as a journal prints it: the moment
-// handed in and the event. `kept` prints the rows that are kept, `reopen` opens the cores again with them, and `forget` prints the numbers of the entries that
-// the cores forget. Empty lines and lines that begin with `#` are printed as they stand.
+// A line `settings ..` begins a journal (settings.rt says what it holds), `kept` prints the rows that are kept, and `reopen` opens the
+// cores again with them, as a restart does. Any other line is a step, as a journal prints it: the moment handed in and the event. Empty
+// lines and lines that begin with `#` are printed as they stand.
 #![tactic(auto)]
 
 mod cores;
@@ -48,8 +48,6 @@ fn play_other(
         print_line(out, line)?;
     } else if is(name, b"kept") {
         cores.print_kept(out)?;
-    } else if is(name, b"forget") {
-        cores.forget(out)?;
     } else {
         return Ok(false);
     }

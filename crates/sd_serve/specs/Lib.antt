@@ -1,2 +1,0 @@
-pub mod Outsides
-pub mod Words

@@ -1,2 +1,0 @@
-pub mod SpokenLaws
-pub mod GrowingLaws
