@@ -124,7 +124,7 @@ closings_in_part keep (x ∷ xs) h =
     let rest = closings_in_part keep xs (second_holds (closes_first xs x.number (closed_by x.event x.reply)) (closes_once xs) h) in
     part_law (λ (l : List Entry). closes_once l ≡ true) (keep xs x) x (part keep xs)
     (λ _. both_hold (closes_first (part keep xs) x.number (closed_by x.event x.reply)) (closes_once (part keep xs))
-        (first_in_part keep x.number (closed_by x.event x.reply) xs (first_holds (closes_first xs x.number (closed_by x.event x.reply)) (closes_once xs) h)) rest)
+    (first_in_part keep x.number (closed_by x.event x.reply) xs (first_holds (closes_first xs x.number (closed_by x.event x.reply)) (closes_once xs) h)) rest)
     (λ _. rest)
 
 -- answers
@@ -135,11 +135,11 @@ kinds_in_part keep b (x ∷ xs) f h =
     let rest = kinds_in_part keep x.number xs falls (second_holds (holds_kind (answer_in xs x)) (holds_kinds xs) h) in
     part_law (λ (l : List Entry). holds_kinds l ≡ true) (keep xs x) x (part keep xs)
     (λ _. both_hold (holds_kind (answer_in (part keep xs) x)) (holds_kinds (part keep xs))
-        (elim (answer_or_none (part keep xs) xs x x.event (key_or_none keep x.number xs falls)) [
-          | inl s ↦ ap holds_kind s ∙ first_holds (holds_kind (answer_in xs x)) (holds_kinds xs) h
-          | inr s ↦ ap holds_kind s
-        ])
-        rest)
+    (elim (answer_or_none (part keep xs) xs x x.event (key_or_none keep x.number xs falls)) [
+      | inl s ↦ ap holds_kind s ∙ first_holds (holds_kind (answer_in xs x)) (holds_kinds xs) h
+      | inr s ↦ ap holds_kind s
+    ])
+    rest)
     (λ _. rest)
 
 unvoided_by : (p q : List Entry) (r : ℕ) (x y : Option Key) (answered : Answered) → (x ≡ y) ⊎ (x ≡ None) → is_unvoided_since q r y answered ≡ true →
@@ -173,7 +173,7 @@ asked_in_part next all o (x ∷ xs) within h =
     let rest = asked_in_part next all o xs (λ e past at. within e past (inr at)) (second_holds (is_asked_since xs x.event x.reply) (are_asked_since xs) h) in
     part_law (λ (l : List Entry). are_asked_since l ≡ true) (is_needed all xs x) x (part (is_needed all) xs)
     (λ k. both_hold (is_asked_since (part (is_needed all) xs) x.event x.reply) (are_asked_since (part (is_needed all) xs))
-        (asked_here next all o x xs (within x xs (inl (refl, refl))) k x.event refl (first_holds (is_asked_since xs x.event x.reply) (are_asked_since xs) h)) rest)
+    (asked_here next all o x xs (within x xs (inl (refl, refl))) k x.event refl (first_holds (is_asked_since xs x.event x.reply) (are_asked_since xs) h)) rest)
     (λ _. rest)
 
 -- open requests and tickets, by what is shown alike
