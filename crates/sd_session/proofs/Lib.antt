@@ -1,0 +1,10 @@
+mod SpokenLaws
+mod Begun
+mod Carrying
+mod Ending
+mod GivingUp
+mod Opening
+mod Refusing
+mod Sharing
+mod Standing
+mod Turning

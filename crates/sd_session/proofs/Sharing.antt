@@ -1,0 +1,153 @@
+-- Steps at a desk, as moves of a session.
+use Rattle.std.proofs.Common.{◌≡◌, ◌∙◌, ℕ, Bool, true, false, cond, ◌&&◌, List, [], ◌∷◌, ◌++◌, Option, Result, Ok, Err, refl, sym, ap, subst}
+use Rattle.std.specs.Prelude.{IfOk, IfErr, OnErr}
+use Rattle.sd_base.specs.declared.Why.{Why}
+use Rattle.sd_rules.specs.declared.events.Event.{Event}
+use Rattle.sd_rules.specs.declared.events.Event.TheVariants as events
+use Rattle.sd_rules.specs.declared.replies.Entry.{Entry}
+use Rattle.sd_rules.specs.declared.replies.Given.{Given}
+use Rattle.sd_rules.specs.declared.replies.Refused.{Refused}
+use Rattle.sd_rules.specs.declared.replies.StepFault.{StepFault}
+use Rattle.sd_rules.specs.declared.replies.StepFault.TheVariants as faults
+use Rattle.sd_rules.specs.Reaching as reaching
+use Rattle.sd_rules.specs.Reaching.{Reaches, after_forget}
+use Rattle.sd_rules.specs.Steps.{Daemon, after, entry_made, is_steppable}
+use Rattle.sd_rules.proofs.ReachingLaws.{reaches_self, reaches_through}
+use Rattle.sd_conf.specs.declared.config.Config.{Config}
+use Rattle.sd_clock.specs.Readings.{FollowsOn}
+use Rattle.sd_dial.specs.Entries.{Behind}
+use Rattle.sd_desk.specs.Steps.{MadeEntry, Collected, Forgot, WasFull, FullAfterForget}
+use Rattle.sd_engine.specs.declared.ending.SessionEnd.{SessionEnd}
+use Rattle.sd_engine.specs.declared.ending.SessionEnd.TheVariants as ends
+use Rattle.sd_engine.specs.Engines.{Engine}
+use Rattle.sd_session.specs.Desks.{at_desk}
+use Rattle.sd_session.specs.Running.{Outside, Stands, Ran, tracing}
+use Rattle.sd_session.specs.Sessions.{Trace, Move, Finds, Hears, Steps, Refuses, Fetches, Binds, Tells, Breaks, Finishes, Stand, AllMay, stand_after}
+use Rattle.sd_session.specs.Stepping.{IsMade, IsRefused, IsWaited, RefusedAs, end_of}
+use Rattle.sd_session.specs.Withdrawing.{Try, after_tries, gives_up, AllGiveUp, Withdraws, MayWithdraw, Session, is_abrupt}
+use Rattle.sd_session.proofs.Carrying.{Far, Forgot as ForgotBefore}
+
+pub far_at_desk : Far at_desk
+far_at_desk d e to = to
+
+pub made_at_desk : (old new : Daemon) (mine mine' : List Entry) (now : ℕ) (event : Event) (gave : Given) (readings readings' : Option (List ℕ)) → MadeEntry old new mine mine' now event gave → FollowsOn readings now readings'
+    → IsMade at_desk old event gave new (record { readings = readings; entries = mine }) (record { readings = readings'; entries = mine' })
+made_at_desk old new mine mine' now event gave readings readings' m read = record {
+  found = m.before;
+  others = m.reached;
+  now = now;
+  read = read;
+  made = m.made.front;
+  gives = m.made.gives;
+  fits = m.made.laws.of_kind;
+  kept = m.made.kept;
+  room = m.made.room;
+  entries = m.made.mine;
+}
+
+pub collected_at_desk : (old new : Daemon) (mine mine' : List Entry) (now ticket : ℕ) (gave : Given) (readings readings' : Option (List ℕ)) → Collected old new mine mine' now ticket gave → FollowsOn readings now readings'
+    → IsMade at_desk old (events.Collect ticket) gave new (record { readings = readings; entries = mine }) (record { readings = readings'; entries = mine' })
+collected_at_desk old new mine mine' now ticket gave readings readings' m read =
+    made_at_desk old new mine mine' now (events.Collect ticket) gave readings readings' (record { before = m.before; reached = m.reached; made = m.made }) read
+
+pub full_by : (old new : Daemon) (event : Event) (fault : StepFault) → ((n : ℕ) → fault ≡ faults.JournalFull n → FullAfterForget old new event n)
+    → (n : ℕ) → end_of fault ≡ ends.JournalFull n → FullAfterForget old new event n
+full_by old new event (faults.JournalFull m) full n is = full n (same_places m n is)
+  where
+    same_places : (m n : ℕ) → ends.JournalFull m ≡ ends.JournalFull n → faults.JournalFull m ≡ faults.JournalFull n
+    same_places m n e = cc
+full_by old new event faults.Memory full n is = let clash : ⊥ = cc in absurd clash
+
+pub refused_by : (old new : Daemon) (event : Event) (fault : StepFault) → ((n : ℕ) → fault ≡ faults.JournalFull n → FullAfterForget old new event n) → RefusedAs new event (end_of fault)
+refused_by old new event (faults.JournalFull n) full = let was : WasFull new event n = (full n refl).full in (was.full, was.places)
+refused_by old new event faults.Memory full = tt
+
+-- a step that was refused as full, and is so again after a forget
+pub full_again : (old forgot new : Daemon) (others : List Entry) (event : Event) (n : ℕ) → Forgot old forgot others → Reaches forgot new → WasFull new event n → FullAfterForget old new event n
+full_again old forgot new others event n f to full = record { before = f.before; reached = f.reached; forgot = subst (λ (x : Daemon). Reaches x new) f.front to; full = full }
+
+pub full_from : (first old new : Daemon) (event : Event) (n : ℕ) → Reaches first old → FullAfterForget old new event n → FullAfterForget first new event n
+full_from first old new event n to f = record { before = f.before; reached = reaches_through first old f.before to f.reached; forgot = f.forgot; full = f.full }
+
+-- ---- what moves reach
+
+one_step : (d : Daemon) (now : ℕ) (event : Event) → is_steppable d.past event ≡ true → Reaches d (after d now event)
+one_step d now event may = record { moves = reaching.Append now event ∷ []; can = both may; reached = refl }
+  where
+    both : {a : Bool} → a ≡ true → a && true ≡ true
+    both {true} h = refl
+    both {false} h = h
+
+pub reach_moves : (seed : List ℕ) (config : Config) (behind : ℕ → Option Behind) (d : Daemon) (moves : List Move) → AllMay at_desk seed config behind d moves → Reaches d (stand_after seed config d moves).daemon
+reach_moves seed config behind d [] may = reaches_self d
+reach_moves seed config behind d (Finds found ∷ moves) may = reaches_through d (stand_after seed config d moves).daemon found (reach_moves seed config behind d moves may.1) may.0
+reach_moves seed config behind d (Steps now event ∷ moves) may =
+    let s : Stand = stand_after seed config d moves in
+    reaches_through d s.daemon (after s.daemon now event) (reach_moves seed config behind d moves may.1) (one_step s.daemon now event may.0.steppable)
+reach_moves seed config behind d (Hears request ∷ moves) may = reach_moves seed config behind d moves may.1
+reach_moves seed config behind d (Refuses now ∷ moves) may = reach_moves seed config behind d moves may.1
+reach_moves seed config behind d (Fetches fetched operations ∷ moves) may = reach_moves seed config behind d moves may.1
+reach_moves seed config behind d (Binds bound operations ∷ moves) may = reach_moves seed config behind d moves may.1
+reach_moves seed config behind d (Tells said ∷ moves) may = reach_moves seed config behind d moves may.1
+reach_moves seed config behind d (Breaks said count ∷ moves) may = reach_moves seed config behind d moves may.1
+reach_moves seed config behind d (Finishes ∷ moves) may = reach_moves seed config behind d moves may.1
+
+-- the journal that the last own step ended reaches the one where the session stands
+own_reaches : (seed : List ℕ) (config : Config) (behind : ℕ → Option Behind) (d : Daemon) (moves : List Move) → AllMay at_desk seed config behind d moves → Reaches (stand_after seed config d moves).own_end (stand_after seed config d moves).daemon
+own_reaches seed config behind d [] may = reaches_self d
+own_reaches seed config behind d (Finds found ∷ moves) may =
+    let s : Stand = stand_after seed config d moves in reaches_through s.own_end s.daemon found (own_reaches seed config behind d moves may.1) may.0
+own_reaches seed config behind d (Steps now event ∷ moves) may = reaches_self _
+own_reaches seed config behind d (Hears request ∷ moves) may = own_reaches seed config behind d moves may.1
+own_reaches seed config behind d (Refuses now ∷ moves) may = own_reaches seed config behind d moves may.1
+own_reaches seed config behind d (Fetches fetched operations ∷ moves) may = own_reaches seed config behind d moves may.1
+own_reaches seed config behind d (Binds bound operations ∷ moves) may = own_reaches seed config behind d moves may.1
+own_reaches seed config behind d (Tells said ∷ moves) may = own_reaches seed config behind d moves may.1
+own_reaches seed config behind d (Breaks said count ∷ moves) may = own_reaches seed config behind d moves may.1
+own_reaches seed config behind d (Finishes ∷ moves) may = own_reaches seed config behind d moves may.1
+
+pub forgot_before : (seed : List ℕ) (config : Config) (ending : SessionEnd) (e : Engine) (daemon daemon' : Daemon) (o : Outside) (event : Event) (now : ℕ) → ((n : ℕ) → ending ≡ ends.JournalFull n → FullAfterForget daemon daemon' event n)
+    → ForgotBefore at_desk seed config ending e daemon o daemon' event now
+forgot_before seed config ending e daemon daemon' o event now full = λ d before s count is.
+    full_from (stand_after seed config d s.moves).own_end daemon daemon' event count
+    (subst (Reaches (stand_after seed config d s.moves).own_end) (sym s.hand.same) (own_reaches seed config before.dialling.behind d s.moves s.may)) (full count is)
+
+may_give_up : (d : Daemon) (event : Event) → gives_up event ≡ true → is_steppable d.past event ≡ true
+may_give_up d (events.Abandon n) h = refl
+may_give_up d (events.Leave n) h = refl
+may_give_up d (events.Ask k) h = refl
+may_give_up d (events.Pick n) h = refl
+may_give_up d (events.Fall n server why) h = refl
+may_give_up d (events.Answer n answered) h = let clash : ⊥ = cc in absurd clash
+may_give_up d (events.Refuse n refusal) h = refl
+may_give_up d (events.Outage n) h = refl
+may_give_up d (events.Collect n) h = refl
+may_give_up d (events.Void what) h = refl
+may_give_up d events.Offline h = refl
+may_give_up d events.Online h = refl
+may_give_up d events.Stop h = refl
+may_give_up d (events.LoginOpen user) h = refl
+may_give_up d (events.LoginOnline n result) h = refl
+may_give_up d (events.LoginLook user) h = refl
+may_give_up d (events.LoginGuess user n right) h = refl
+may_give_up d (events.LoginTry a n right) h = refl
+may_give_up d (events.Access user service) h = refl
+may_give_up d (events.Kept row) h = let clash : ⊥ = cc in absurd clash
+
+either : (b : Bool) (d f e : Daemon) → Reaches d f → Reaches d e → Reaches d (cond b f e)
+either true d f e to other = to
+either false d f e to other = other
+
+reach_tries : (d : Daemon) (tries : List Try) → AllGiveUp at_desk d tries → Reaches d (after_tries d tries)
+reach_tries d [] all = reaches_self d
+reach_tries d (t ∷ tries) all =
+    let to : Reaches d t.found = reaches_through d (after_tries d tries) t.found (reach_tries d tries all.2) all.1 in
+    either t.is_made d (after t.found t.now t.event) t.found (reaches_through d t.found (after t.found t.now t.event) to (one_step t.found t.now t.event (may_give_up t.found t.event all.0))) to
+
+reach_leaving : (abrupt : Bool) (d daemon : Daemon) (before now : Trace) → MayWithdraw at_desk abrupt d daemon before now → Reaches d daemon
+reach_leaving true d daemon before now w = subst (Reaches d) (sym w.given_up) (reach_tries d w.tries w.give_up)
+reach_leaving false d daemon before now w = subst (Reaches d) (sym w.0) (reaches_self d)
+
+pub session_reaches : (seed : List ℕ) (config : Config) (d : Daemon) (before : Outside) (ending : SessionEnd) (daemon : Daemon) (now : Outside) → Session at_desk seed config d before ending daemon now → Reaches d daemon
+session_reaches seed config d before ending daemon now s =
+    reaches_through d s.between daemon (subst (Reaches d) (sym s.ran.stepped) (reach_moves seed config before.dialling.behind d s.ran.moves s.ran.may)) (reach_leaving (is_abrupt ending) s.between daemon s.trace now.trace s.withdraws)

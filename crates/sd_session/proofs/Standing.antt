@@ -1,0 +1,480 @@
+-- What a turn makes of where a session stands.
+use Rattle.std.proofs.Common.{◌≡◌, ◌∙◌, ◌⊎◌, ℕ, ◌+◌, ◌-◌, ◌^◌, ◌≤◌, Bool, true, false, List, [], ◌∷◌, ◌++◌, take, length, zero, suc, Option, Some, None, refl, sym, ap, subst, inl, inr, append_assoc, append-nil, length-append, arith}
+use Rattle.std.specs.Prelude.{IfSome, min}
+use Rattle.std.specs.Option.{option_map}
+use Rattle.std.specs.Io.KnownBytes.{Appends, Consumes}
+use Rattle.std.proofs.KnownBytes.{Appends-nil, Appends-trans, Consumes-nil, Consumes-trans}
+use Rattle.sd_base.specs.Causes.{Rose}
+use Rattle.sd_base.specs.Written.{AppendsFront}
+use Rattle.sd_base.specs.declared.Why.{Why}
+use Rattle.sd_base.specs.declared.Why.TheVariants as whys
+use Rattle.sd_rules.specs.declared.events.Event.{Event}
+use Rattle.sd_rules.specs.declared.keys.Key.{Key}
+use Rattle.sd_rules.specs.declared.replies.Entry.{Entry}
+use Rattle.sd_rules.specs.declared.replies.Given.{Given}
+use Rattle.sd_rules.specs.declared.tasks.Bound.{Bound}
+use Rattle.sd_rules.specs.declared.tasks.Bound.TheVariants as bounds
+use Rattle.sd_rules.specs.declared.tasks.Fetched.{Fetched}
+use Rattle.sd_rules.specs.declared.tasks.Fetched.TheVariants as fetches
+use Rattle.sd_rules.specs.declared.tasks.Need.{Need}
+use Rattle.sd_rules.specs.declared.tasks.Need.TheVariants as needs
+use Rattle.sd_rules.specs.declared.tasks.Said.{Said}
+use Rattle.sd_rules.specs.Steps.{Daemon, after, entry_made, given, is_full, is_steppable}
+use Rattle.sd_conf.specs.declared.config.Config.{Config}
+use Rattle.sd_clock.specs.Readings.{FollowsOn}
+use Rattle.sd_dial.specs.Entries.{Behind}
+use Rattle.sd_dial.specs.Operations.{Operation}
+use Rattle.sd_inquiry.specs.Counting.{HasNotFallen}
+use Rattle.sd_inquiry.specs.Lookups.{with_operations}
+use Rattle.sd_inbox.specs.Taking.{Unread}
+use Rattle.sd_wire.specs.declared.requests.Request.{Request}
+use Rattle.sd_wire.specs.Frames.{frame_of}
+use Rattle.sd_course.specs.Courses.{Client, need_of, event_of, script_at, client_told, client_replied, client_fetched, client_bound, told, fetched, bound}
+use Rattle.sd_engine.specs.Answering.{reply_of}
+use Rattle.sd_engine.specs.Engines.{Engine, client_of, heard, with_inbox, with_client, awaiting, failing, done, replied, is_stop}
+use Rattle.sd_engine.specs.Turns.{Dialling, HearsRequest, HearsBytes, GoesByFetch, GoesByBind, IsTold, IsUntold}
+use Rattle.sd_session.specs.Sessions.{Company, Move, Finds, Hears, Steps, Refuses, Fetches, Binds, Tells, Breaks, Finishes, Stand, AllMay, May, moved, stand_after, frames_of, last_stops, ReadsOn, Trace, TracesOn, CountsFalls, fetch_falls, bind_falls, NeedsStep, NeedsFetch, NeedsBind, NeedsSay, NeedsNothing}
+use Rattle.sd_session.specs.Spoken.{IsSpoken}
+use Rattle.sd_session.specs.Running.{Outside, IsInHand, IsHeardTo, IsWrittenTo, IsAskedTo, HasInHand, Stands}
+use Rattle.sd_session.specs.Stepping.{IsMade, IsWaited}
+use Rattle.sd_session.proofs.Begun.{begun_is_spoken}
+use Rattle.sd_session.proofs.SpokenLaws.{told_known, fetched_known, bound_known}
+
+-- ---- what is told of the outside goes on
+
+pub more_operations : (known between now : Option (List Operation)) (first more : List Operation) → between ≡ with_operations known first → now ≡ with_operations between more → now ≡ with_operations known (first ++ more)
+more_operations None between now first more e f = f ∙ ap (λ (o : Option (List Operation)). with_operations o more) e
+more_operations (Some operations) between now first more e f =
+    f ∙ ap (λ (o : Option (List Operation)). with_operations o more) e ∙ ap Some (append_assoc operations first more)
+
+pub reads_more : (before between now : Option (List ℕ)) (moments : List ℕ) (moment : ℕ) → ReadsOn before moments between → FollowsOn between moment now → ReadsOn before (moments ++ moment ∷ []) now
+reads_more before between None moments moment e f = tt
+reads_more before None (Some readings) moments moment e f = absurd f
+reads_more None (Some earlier) (Some readings) moments moment e f = absurd e
+reads_more (Some first) (Some earlier) (Some readings) moments moment e f = f ∙ ap (λ (list : List ℕ). list ++ moment ∷ []) e ∙ append_assoc first moments (moment ∷ [])
+
+pub falls_more : (before falls between now one : ℕ) → CountsFalls before falls between → HasNotFallen between now → one ≤ 1 → (one ≡ 1 → Rose between now) → CountsFalls before (falls + one) now
+falls_more before falls between now one counted later small rose = by_one one refl small
+  where
+    by_one : (n : ℕ) → one ≡ n → n ≤ 1 → CountsFalls before (falls + one) now
+    by_one zero e s = omega (arith, e, counted, later)
+    by_one (suc n) e s = let risen : Rose between now = rose (omega (arith, e, s)) in omega (arith, e, s, counted, risen)
+
+pub fallen_later : (a b c : ℕ) → HasNotFallen a b → HasNotFallen b c → HasNotFallen a c
+fallen_later a b c e f = omega (arith, e, f)
+
+pub fetch_falls_small : (f : Fetched) → fetch_falls f ≤ 1
+fetch_falls_small (fetches.Found found) = omega arith
+fetch_falls_small fetches.Absent = omega arith
+fetch_falls_small (fetches.Refused code) = omega arith
+fetch_falls_small (fetches.Many count) = omega arith
+fetch_falls_small (fetches.Failed whys.Link) = omega arith
+fetch_falls_small (fetches.Failed (whys.Bytes at)) = omega arith
+fetch_falls_small (fetches.Failed (whys.Code code)) = omega arith
+fetch_falls_small (fetches.Failed (whys.Message tag)) = omega arith
+fetch_falls_small (fetches.Failed (whys.Flood count)) = omega arith
+fetch_falls_small fetches.Memory = omega arith
+
+none_is_one : (P : Type 0) (n : ℕ) → n ≡ zero → n ≡ suc zero → P
+none_is_one P n e h = absurd (omega (arith, e, h))
+
+fetch_fell : (f : Fetched) → fetch_falls f ≡ 1 → f ≡ fetches.Failed whys.Link
+fetch_fell (fetches.Found found) h = none_is_one _ (fetch_falls (fetches.Found found)) refl h
+fetch_fell fetches.Absent h = none_is_one _ (fetch_falls fetches.Absent) refl h
+fetch_fell (fetches.Refused code) h = none_is_one _ (fetch_falls (fetches.Refused code)) refl h
+fetch_fell (fetches.Many count) h = none_is_one _ (fetch_falls (fetches.Many count)) refl h
+fetch_fell (fetches.Failed whys.Link) h = refl
+fetch_fell (fetches.Failed (whys.Bytes at)) h = none_is_one _ (fetch_falls (fetches.Failed (whys.Bytes at))) refl h
+fetch_fell (fetches.Failed (whys.Code code)) h = none_is_one _ (fetch_falls (fetches.Failed (whys.Code code))) refl h
+fetch_fell (fetches.Failed (whys.Message tag)) h = none_is_one _ (fetch_falls (fetches.Failed (whys.Message tag))) refl h
+fetch_fell (fetches.Failed (whys.Flood count)) h = none_is_one _ (fetch_falls (fetches.Failed (whys.Flood count))) refl h
+fetch_fell fetches.Memory h = none_is_one _ (fetch_falls fetches.Memory) refl h
+
+bind_falls_small : (b : Bound) → bind_falls b ≤ 1
+bind_falls_small (bounds.Code code) = omega arith
+bind_falls_small (bounds.Failed whys.Link) = omega arith
+bind_falls_small (bounds.Failed (whys.Bytes at)) = omega arith
+bind_falls_small (bounds.Failed (whys.Code code)) = omega arith
+bind_falls_small (bounds.Failed (whys.Message tag)) = omega arith
+bind_falls_small (bounds.Failed (whys.Flood count)) = omega arith
+bind_falls_small bounds.Memory = omega arith
+
+bind_fell : (b : Bound) → bind_falls b ≡ 1 → b ≡ bounds.Failed whys.Link
+bind_fell (bounds.Code code) h = none_is_one _ (bind_falls (bounds.Code code)) refl h
+bind_fell (bounds.Failed whys.Link) h = refl
+bind_fell (bounds.Failed (whys.Bytes at)) h = none_is_one _ (bind_falls (bounds.Failed (whys.Bytes at))) refl h
+bind_fell (bounds.Failed (whys.Code code)) h = none_is_one _ (bind_falls (bounds.Failed (whys.Code code))) refl h
+bind_fell (bounds.Failed (whys.Message tag)) h = none_is_one _ (bind_falls (bounds.Failed (whys.Message tag))) refl h
+bind_fell (bounds.Failed (whys.Flood count)) h = none_is_one _ (bind_falls (bounds.Failed (whys.Flood count))) refl h
+bind_fell bounds.Memory h = none_is_one _ (bind_falls bounds.Memory) refl h
+
+-- ---- moves
+
+-- the frame in front was passed: the bytes taken are the same
+frame_passed : (frames frame rest unread : List ℕ) → unread ≡ frame ++ rest → frames ++ unread ≡ (frames ++ frame) ++ rest
+frame_passed frames frame rest unread e = ap (λ (list : List ℕ). frames ++ list) e ∙ sym (append_assoc frames frame rest)
+
+not_failed : {b : Bool} → b ≡ false → b ≡ true → ⊥
+not_failed e f = cc
+
+heard_frame : (s : Stand) (e f : Engine) (seed : List ℕ) (config : Config) (before o p : Outside) → IsHeardTo s e before o → (h : HearsRequest seed config.settings e f o.left p.left) → o.reads ≤ p.reads
+    → IsHeardTo (moved seed config s (Hears h.request)) f before p
+heard_frame s e f seed config before o p heard h later = record {
+  consumed =
+      subst (λ (l : Option (List ℕ)). Consumes before.left l ((frames_of s.requests ++ frame_of h.request) ++ f.inbox.bytes)) (sym h.quiet)
+      (subst (Consumes before.left o.left)
+      (frame_passed (frames_of s.requests) (frame_of h.request) f.inbox.bytes e.inbox.bytes (h.frame.bytes ∙ ap (λ (x : Engine). frame_of h.request ++ x.inbox.bytes) (sym h.after)))
+      heard.consumed);
+  place =
+      ap (λ (x : Engine). x.inbox.place) h.after ∙ h.frame.place ∙ ap (λ (n : ℕ). n + length (frame_of h.request)) heard.place
+      ∙ sym (length-append (frames_of s.requests) (frame_of h.request));
+  stops = ap (λ (x : Engine). x.stops) h.after;
+  reads = omega (arith, heard.reads, later);
+}
+
+heard_bytes : (s : Stand) (e f : Engine) (before o p : Outside) → IsHeardTo s e before o → (h : HearsBytes e f o.left p.left) → o.reads ≤ p.reads → IsHeardTo s f before p
+heard_bytes s e f before o p heard h later =
+    let bytes : f.inbox.bytes ≡ e.inbox.bytes ++ h.taken.piece = ap (λ (x : Engine). x.inbox.bytes) h.after ∙ ap (λ (u : Unread). u.bytes) h.taken.bytes in
+    record {
+      consumed =
+          subst (Consumes before.left p.left) (append_assoc (frames_of s.requests) e.inbox.bytes h.taken.piece ∙ ap (λ (list : List ℕ). frames_of s.requests ++ list) (sym bytes))
+          (Consumes-trans _ _ _ _ _ heard.consumed h.taken.consumed);
+      place = ap (λ (x : Engine). x.inbox.place) h.after ∙ ap (λ (u : Unread). u.place) h.taken.bytes ∙ heard.place;
+      stops = ap (λ (x : Engine). x.stops) h.after ∙ heard.stops;
+      reads = omega (arith, heard.reads, later);
+    }
+
+-- nothing was heard
+pub record SameHeard (e f : Engine) (o p : Outside) : Type 0 where
+  pub inbox : f.inbox ≡ e.inbox
+  pub stops : f.stops ≡ e.stops
+  pub left : p.left ≡ o.left
+  pub reads : p.reads ≡ o.reads
+
+heard_on : (s t : Stand) (e f : Engine) (before o p : Outside) → t.requests ≡ s.requests → IsHeardTo s e before o → SameHeard e f o p → IsHeardTo t f before p
+heard_on s t e f before o p requests heard same = record {
+  consumed =
+      subst (λ (l : Option (List ℕ)). Consumes before.left l (frames_of t.requests ++ f.inbox.bytes)) (sym same.left)
+      (subst (λ (u : Unread). Consumes before.left o.left (frames_of t.requests ++ u.bytes)) (sym same.inbox)
+      (subst (λ (rs : List Request). Consumes before.left o.left (frames_of rs ++ e.inbox.bytes)) (sym requests) heard.consumed));
+  place = ap (λ (u : Unread). u.place) same.inbox ∙ heard.place ∙ ap (λ (rs : List Request). length (frames_of rs)) (sym requests);
+  stops = same.stops ∙ heard.stops ∙ ap (λ (rs : List Request). last_stops rs) (sym requests);
+  reads = subst (λ (n : ℕ). before.reads ≤ n) (sym same.reads) heard.reads;
+}
+
+-- nothing was written
+pub record SameWritten (e f : Engine) (o p : Outside) : Type 0 where
+  pub held : p.held ≡ o.held
+  pub failed : f.has_failed ≡ true → e.has_failed ≡ true
+  pub writes : o.writes ≤ p.writes
+
+written_on : (s t : Stand) (e f : Engine) (before o p : Outside) → t.written ≡ s.written → IsWrittenTo s e before o → SameWritten e f o p → IsWrittenTo t f before p
+written_on s t e f before o p as_written written same = record {
+  written =
+      subst (λ (l : Option (List ℕ)). Appends before.held l t.written) (sym same.held)
+      (subst (Appends before.held o.held) (sym as_written) written.written);
+  failed = λ failed. let rose = written.failed (same.failed failed) in omega (arith, rose, same.writes);
+  writes = omega (arith, written.writes, same.writes);
+}
+
+asked_on : (s t : Stand) (before d e : Dialling) → t.operations ≡ s.operations → t.falls ≡ s.falls → e ≡ d → IsAskedTo s before d → IsAskedTo t before e
+asked_on s t before d e operations falls same asked = record {
+  operations = ap (λ (x : Dialling). x.operations) same ∙ asked.operations ∙ ap (with_operations before.operations) (sym operations);
+  behind = λ i. ap (λ (x : Dialling). x.behind i) same ∙ asked.behind i;
+  falls = subst (λ (x : Dialling). CountsFalls before.faults t.falls x.faults) (sym same) (subst (λ (n : ℕ). CountsFalls before.faults n d.faults) (sym falls) asked.falls);
+  later = subst (λ (x : Dialling). HasNotFallen before.faults x.faults) (sym same) asked.later;
+}
+
+-- ---- turns without a request in hand
+
+pub stands_hears : (w : Company) (seed : List ℕ) (config : Config) (d : Daemon) (before : Outside) (e f : Engine) (daemon : Daemon) (o p : Outside) → Stands w seed config d before e daemon o → e.client ≡ None
+    → HearsRequest seed config.settings e f o.left p.left → o.reads ≤ p.reads → p.held ≡ o.held → o.writes ≤ p.writes → p.trace ≡ o.trace → p.dialling ≡ o.dialling
+    → Stands w seed config d before f daemon p
+stands_hears w seed config d before e f daemon o p s none h reads held writes readings dialling =
+    let s0 : Stand = stand_after seed config d s.moves in
+    let t : Stand = moved seed config s0 (Hears h.request) in
+    record {
+      moves = Hears h.request ∷ s.moves;
+      may = (sym s.hand.client ∙ none, s.may);
+      hand = record {
+        same = s.hand.same;
+        client = ap (λ (x : Engine). x.client) h.after;
+        in_hand = subst (λ (x : Engine). IfSome x.client (IsInHand seed daemon)) (sym h.after) (record { salted = refl; known = begun_is_spoken daemon config.settings h.request });
+      };
+      heard = heard_frame s0 e f seed config before o p s.heard h reads;
+      written = written_on s0 t e f before o p refl s.written (record { held = held; failed = λ failed. absurd (not_failed (ap (λ (x : Engine). x.has_failed) h.after) failed); writes = writes });
+      trace = subst (TracesOn before.trace s0) (sym readings) s.trace;
+      asked = asked_on s0 t before.dialling o.dialling p.dialling refl refl dialling s.asked;
+    }
+
+pub stands_takes : (w : Company) (seed : List ℕ) (config : Config) (d : Daemon) (before : Outside) (e f : Engine) (daemon : Daemon) (o p : Outside) → Stands w seed config d before e daemon o
+    → HearsBytes e f o.left p.left → o.reads ≤ p.reads → p.held ≡ o.held → o.writes ≤ p.writes → p.trace ≡ o.trace → p.dialling ≡ o.dialling
+    → Stands w seed config d before f daemon p
+stands_takes w seed config d before e f daemon o p s h reads held writes readings dialling =
+    let s0 : Stand = stand_after seed config d s.moves in
+    record {
+      moves = s.moves;
+      may = s.may;
+      hand = record {
+        same = s.hand.same;
+        client = ap (λ (x : Engine). x.client) h.after ∙ s.hand.client;
+        in_hand = subst (λ (x : Engine). IfSome x.client (IsInHand seed daemon)) (sym h.after) s.hand.in_hand;
+      };
+      heard = heard_bytes s0 e f before o p s.heard h reads;
+      written = written_on s0 s0 e f before o p refl s.written (record { held = held; failed = λ failed. sym (ap (λ (x : Engine). x.has_failed) h.after) ∙ failed; writes = writes });
+      trace = subst (TracesOn before.trace s0) (sym readings) s.trace;
+      asked = asked_on s0 s0 before.dialling o.dialling p.dialling refl refl dialling s.asked;
+    }
+
+-- ---- turns with a request in hand
+
+-- what stays outside of a turn that only serves
+pub record Quiet (o p : Outside) : Type 0 where
+  pub left : p.left ≡ o.left
+  pub reads : p.reads ≡ o.reads
+  pub trace : p.trace ≡ o.trace
+
+in_hand_as : (seed : List ℕ) (daemon : Daemon) (e : Engine) (c : Client) → e.client ≡ Some c → IfSome e.client (IsInHand seed daemon) → IsInHand seed daemon c
+in_hand_as seed daemon e c is hand = subst (λ (o : Option Client). IfSome o (IsInHand seed daemon)) is hand
+
+same_heard : (e f : Engine) (o p : Outside) → f.inbox ≡ e.inbox → f.stops ≡ e.stops → Quiet o p → SameHeard e f o p
+same_heard e f o p inbox stops quiet = record { inbox = inbox; stops = stops; left = quiet.left; reads = quiet.reads }
+
+pub stands_named : (w : Company) (seed : List ℕ) (config : Config) (d : Daemon) (before : Outside) (e f : Engine) (daemon : Daemon) (o p : Outside) (c : Client) (about : Option ℕ) → Stands w seed config d before e daemon o → e.client ≡ Some c
+    → f ≡ awaiting e c about → Quiet o p → p.held ≡ o.held → o.writes ≤ p.writes → p.dialling ≡ o.dialling → Stands w seed config d before f daemon p
+stands_named w seed config d before e f daemon o p c about s is new quiet held writes dialling =
+    let s0 : Stand = stand_after seed config d s.moves in
+    record {
+      moves = s.moves;
+      may = s.may;
+      hand = record {
+        same = s.hand.same;
+        client = ap (λ (x : Engine). x.client) new ∙ sym is ∙ s.hand.client;
+        in_hand = subst (λ (x : Engine). IfSome x.client (IsInHand seed daemon)) (sym new) (in_hand_as seed daemon e c is s.hand.in_hand);
+      };
+      heard = heard_on s0 s0 e f before o p refl s.heard (same_heard e f o p (ap (λ (x : Engine). x.inbox) new) (ap (λ (x : Engine). x.stops) new) quiet);
+      written = written_on s0 s0 e f before o p refl s.written (record { held = held; failed = λ failed. sym (ap (λ (x : Engine). x.has_failed) new) ∙ failed; writes = writes });
+      trace = subst (TracesOn before.trace s0) (sym quiet.trace) s.trace;
+      asked = asked_on s0 s0 before.dialling o.dialling p.dialling refl refl dialling s.asked;
+    }
+
+pub stands_fetches : (w : Company) (seed : List ℕ) (config : Config) (d : Daemon) (before : Outside) (e f : Engine) (daemon : Daemon) (o p : Outside) (c : Client) (server : ℕ) (key : Key) → Stands w seed config d before e daemon o → e.client ≡ Some c
+    → need_of c ≡ needs.Fetch server key → GoesByFetch config server key (done e) c f o.dialling p.dialling → Quiet o p → p.held ≡ o.held → o.writes ≤ p.writes → Stands w seed config d before f daemon p
+stands_fetches w seed config d before e f daemon o p c server key s is needed g quiet held writes =
+    let s0 : Stand = stand_after seed config d s.moves in
+    let move : Move = Fetches g.fetched g.lookup.asked.operations in
+    let t : Stand = moved seed config s0 move in
+    let hand : IsInHand seed daemon c = in_hand_as seed daemon e c is s.hand.in_hand in
+    record {
+      moves = move ∷ s.moves;
+      may = (
+        record {
+          client = c;
+          in_hand = sym s.hand.client ∙ is;
+          server = server;
+          key = key;
+          needed = needed;
+          asked = g.lookup.asked.are;
+          told = λ b behind. g.lookup.told b (s.asked.behind server ∙ behind);
+        },
+        s.may,
+      );
+      hand = record {
+        same = s.hand.same;
+        client = ap (λ (x : Engine). x.client) g.after ∙ ap (option_map (λ (x : Client). client_fetched x g.fetched)) (sym is ∙ s.hand.client);
+        in_hand = subst (λ (x : Engine). IfSome x.client (IsInHand seed daemon)) (sym g.after) (record { salted = hand.salted; known = fetched_known daemon c.course g.fetched hand.known });
+      };
+      heard = heard_on s0 t e f before o p refl s.heard (same_heard e f o p (ap (λ (x : Engine). x.inbox) g.after) (ap (λ (x : Engine). x.stops) g.after) quiet);
+      written = written_on s0 t e f before o p refl s.written (record { held = held; failed = λ failed. sym (ap (λ (x : Engine). x.has_failed) g.after) ∙ failed; writes = writes });
+      trace = subst (TracesOn before.trace s0) (sym quiet.trace) s.trace;
+      asked = record {
+        operations = more_operations before.dialling.operations o.dialling.operations p.dialling.operations s0.operations g.lookup.asked.operations s.asked.operations g.lookup.asked.told;
+        behind = λ i. g.lookup.behind i ∙ s.asked.behind i;
+        falls = falls_more before.dialling.faults s0.falls o.dialling.faults p.dialling.faults (fetch_falls g.fetched) s.asked.falls g.lookup.later (fetch_falls_small g.fetched) (λ one. g.lookup.fallen (fetch_fell g.fetched one));
+        later = fallen_later _ _ _ s.asked.later g.lookup.later;
+      };
+    }
+
+pub stands_binds : (w : Company) (seed : List ℕ) (config : Config) (d : Daemon) (before : Outside) (e f : Engine) (daemon : Daemon) (o p : Outside) (c : Client) (server : ℕ) (dn password : List ℕ) → Stands w seed config d before e daemon o → e.client ≡ Some c
+    → need_of c ≡ needs.Bind server dn password → GoesByBind server dn password (done e) c f o.dialling p.dialling → Quiet o p → p.held ≡ o.held → o.writes ≤ p.writes → Stands w seed config d before f daemon p
+stands_binds w seed config d before e f daemon o p c server dn password s is needed g quiet held writes =
+    let s0 : Stand = stand_after seed config d s.moves in
+    let move : Move = Binds g.bound g.bind.asked.operations in
+    let t : Stand = moved seed config s0 move in
+    let hand : IsInHand seed daemon c = in_hand_as seed daemon e c is s.hand.in_hand in
+    record {
+      moves = move ∷ s.moves;
+      may = (
+        record {
+          client = c;
+          in_hand = sym s.hand.client ∙ is;
+          server = server;
+          dn = dn;
+          password = password;
+          needed = needed;
+          asked = g.bind.asked.are;
+          told = λ b behind. g.bind.told b (s.asked.behind server ∙ behind);
+        },
+        s.may,
+      );
+      hand = record {
+        same = s.hand.same;
+        client = ap (λ (x : Engine). x.client) g.after ∙ ap (option_map (λ (x : Client). client_bound x g.bound)) (sym is ∙ s.hand.client);
+        in_hand = subst (λ (x : Engine). IfSome x.client (IsInHand seed daemon)) (sym g.after) (record { salted = hand.salted; known = bound_known c.seed daemon c.course g.bound hand.known });
+      };
+      heard = heard_on s0 t e f before o p refl s.heard (same_heard e f o p (ap (λ (x : Engine). x.inbox) g.after) (ap (λ (x : Engine). x.stops) g.after) quiet);
+      written = written_on s0 t e f before o p refl s.written (record { held = held; failed = λ failed. sym (ap (λ (x : Engine). x.has_failed) g.after) ∙ failed; writes = writes });
+      trace = subst (TracesOn before.trace s0) (sym quiet.trace) s.trace;
+      asked = record {
+        operations = more_operations before.dialling.operations o.dialling.operations p.dialling.operations s0.operations g.bind.asked.operations s.asked.operations g.bind.asked.told;
+        behind = λ i. g.bind.behind i ∙ s.asked.behind i;
+        falls = falls_more before.dialling.faults s0.falls o.dialling.faults p.dialling.faults (bind_falls g.bound) s.asked.falls g.bind.later (bind_falls_small g.bound) (λ one. g.bind.fallen (bind_fell g.bound one));
+        later = fallen_later _ _ _ s.asked.later g.bind.later;
+      };
+    }
+
+pub stands_tells : (w : Company) (seed : List ℕ) (config : Config) (d : Daemon) (before : Outside) (e f : Engine) (daemon : Daemon) (o p : Outside) (c : Client) (said : Said) → Stands w seed config d before e daemon o → e.client ≡ Some c
+    → need_of c ≡ needs.Say said → IsTold config.pwfield said (done e) (client_told c) f o.held p.held → Quiet o p → o.writes ≤ p.writes → p.dialling ≡ o.dialling → Stands w seed config d before f daemon p
+stands_tells w seed config d before e f daemon o p c said s is needed g quiet writes dialling =
+    let s0 : Stand = stand_after seed config d s.moves in
+    let move : Move = Tells said in
+    let t : Stand = moved seed config s0 move in
+    let hand : IsInHand seed daemon c = in_hand_as seed daemon e c is s.hand.in_hand in
+    record {
+      moves = move ∷ s.moves;
+      may = (record { client = c; in_hand = sym s.hand.client ∙ is; needed = needed }, s.may);
+      hand = record {
+        same = s.hand.same;
+        client = ap (λ (x : Engine). x.client) g.after ∙ ap (option_map client_told) (sym is ∙ s.hand.client);
+        in_hand = subst (λ (x : Engine). IfSome x.client (IsInHand seed daemon)) (sym g.after) (record { salted = hand.salted; known = told_known daemon c.course hand.known });
+      };
+      heard = heard_on s0 t e f before o p refl s.heard (same_heard e f o p (ap (λ (x : Engine). x.inbox) g.after) (ap (λ (x : Engine). x.stops) g.after) quiet);
+      written = record {
+        written = Appends-trans _ _ _ _ _ s.written.written g.written;
+        failed = λ failed. let rose = s.written.failed (sym (ap (λ (x : Engine). x.has_failed) g.after) ∙ failed) in omega (arith, rose, writes);
+        writes = omega (arith, s.written.writes, writes);
+      };
+      trace = subst (TracesOn before.trace s0) (sym quiet.trace) s.trace;
+      asked = asked_on s0 t before.dialling o.dialling p.dialling refl refl dialling s.asked;
+    }
+
+pub stands_breaks : (w : Company) (seed : List ℕ) (config : Config) (d : Daemon) (before : Outside) (e f : Engine) (daemon : Daemon) (o p : Outside) (c : Client) (said : Said) → Stands w seed config d before e daemon o → e.client ≡ Some c
+    → need_of c ≡ needs.Say said → IsUntold config.pwfield said (done e) (client_told c) f o.held p.held (Rose o.writes p.writes) → Quiet o p → o.writes ≤ p.writes → p.dialling ≡ o.dialling → Stands w seed config d before f daemon p
+stands_breaks w seed config d before e f daemon o p c said s is needed g quiet writes dialling =
+    let s0 : Stand = stand_after seed config d s.moves in
+    let move : Move = Breaks said g.written.0 in
+    let t : Stand = moved seed config s0 move in
+    let hand : IsInHand seed daemon c = in_hand_as seed daemon e c is s.hand.in_hand in
+    record {
+      moves = move ∷ s.moves;
+      may = (record { client = c; in_hand = sym s.hand.client ∙ is; needed = needed }, s.may);
+      hand = record {
+        same = s.hand.same;
+        client = ap (λ (x : Engine). x.client) g.after ∙ ap (option_map client_told) (sym is ∙ s.hand.client);
+        in_hand = subst (λ (x : Engine). IfSome x.client (IsInHand seed daemon)) (sym g.after) (record { salted = hand.salted; known = told_known daemon c.course hand.known });
+      };
+      heard = heard_on s0 t e f before o p refl s.heard (same_heard e f o p (ap (λ (x : Engine). x.inbox) g.after) (ap (λ (x : Engine). x.stops) g.after) quiet);
+      written = record {
+        written = Appends-trans _ _ _ _ _ s.written.written g.written.2;
+        failed = λ failed. omega (arith, g.fault, s.written.writes);
+        writes = omega (arith, s.written.writes, writes);
+      };
+      trace = subst (TracesOn before.trace s0) (sym quiet.trace) s.trace;
+      asked = asked_on s0 t before.dialling o.dialling p.dialling refl refl dialling s.asked;
+    }
+
+pub stands_finishes : (w : Company) (seed : List ℕ) (config : Config) (d : Daemon) (before : Outside) (e f : Engine) (daemon : Daemon) (o p : Outside) (c : Client) → Stands w seed config d before e daemon o → e.client ≡ Some c
+    → need_of c ≡ needs.End → f ≡ done e → Quiet o p → p.held ≡ o.held → o.writes ≤ p.writes → p.dialling ≡ o.dialling → Stands w seed config d before f daemon p
+stands_finishes w seed config d before e f daemon o p c s is needed new quiet held writes dialling =
+    let s0 : Stand = stand_after seed config d s.moves in
+    let t : Stand = moved seed config s0 Finishes in
+    record {
+      moves = Finishes ∷ s.moves;
+      may = (record { client = c; in_hand = sym s.hand.client ∙ is; needed = needed }, s.may);
+      hand = record {
+        same = s.hand.same;
+        client = ap (λ (x : Engine). x.client) new;
+        in_hand = subst (λ (x : Engine). IfSome x.client (IsInHand seed daemon)) (sym new) tt;
+      };
+      heard = heard_on s0 t e f before o p refl s.heard (same_heard e f o p (ap (λ (x : Engine). x.inbox) new) (ap (λ (x : Engine). x.stops) new) quiet);
+      written = written_on s0 t e f before o p refl s.written (record { held = held; failed = λ failed. sym (ap (λ (x : Engine). x.has_failed) new) ∙ failed; writes = writes });
+      trace = subst (TracesOn before.trace s0) (sym quiet.trace) s.trace;
+      asked = asked_on s0 t before.dialling o.dialling p.dialling refl refl dialling s.asked;
+    }
+
+-- ---- steps
+
+entries_more : (before between now own : List Entry) (e : Entry) → between ≡ before ++ own → now ≡ between ++ e ∷ [] → now ≡ before ++ (own ++ e ∷ [])
+entries_more before between now own e first more = more ∙ ap (λ (list : List Entry). list ++ e ∷ []) first ∙ append_assoc before own (e ∷ [])
+
+given_by_made : (d : Daemon) (now : ℕ) (event : Event) (c : Client) (gave : Given) (h k : Option Client) → gave ≡ given d now event → h ≡ k → h ≡ Some c
+    → Some (client_replied c gave) ≡ option_map (λ (x : Client). client_replied x (given d now event)) k
+given_by_made d now event c gave h k is hand some =
+    ap (λ (g : Given). Some (client_replied c g)) is
+    ∙ ap (option_map (λ (x : Client). client_replied x (given d now event))) (sym some ∙ hand)
+
+-- the moves up to a step that was made
+pub may_step_on : (w : Company) (seed : List ℕ) (config : Config) (d : Daemon) (before : Outside) (e : Engine) (daemon daemon' : Daemon) (o : Outside) (later : Trace) (c : Client) (event : Event) (gave : Given) → (s : Stands w seed config d before e daemon o) → e.client ≡ Some c
+    → event_of (need_of c) ≡ Some event → (m : IsMade w daemon event gave daemon' o.trace later) → is_steppable m.found.past event ≡ true → AllMay w seed config before.dialling.behind d (Steps m.now event ∷ Finds m.found ∷ s.moves)
+may_step_on w seed config d before e daemon daemon' o later c event gave s is needed m may = (
+  record { client = c; in_hand = sym s.hand.client ∙ is; needed = needed; steppable = may; room = m.room },
+  subst (λ (x : Daemon). w.others x m.found) s.hand.same m.others,
+  s.may,
+)
+
+pub traces_step : (w : Company) (before o p : Trace) (s : Stand) (daemon daemon' : Daemon) (event : Event) (gave : Given) → TracesOn before s o → (m : IsMade w daemon event gave daemon' o p)
+    → ReadsOn before.readings (s.moments ++ m.now ∷ []) p.readings × (p.entries ≡ before.entries ++ (s.own ++ entry_made m.found m.now event ∷ []))
+traces_step w before o p s daemon daemon' event gave traces m = (
+  reads_more before.readings o.readings p.readings s.moments m.now traces.0 m.read,
+  entries_more before.entries o.entries p.entries s.own (entry_made m.found m.now event) traces.1 m.entries,
+)
+
+same_outside : (e f : Engine) (o p : Outside) → f.inbox ≡ e.inbox → f.stops ≡ e.stops → p ≡ record o { trace = p.trace } → SameHeard e f o p
+same_outside e f o p inbox stops same = record { inbox = inbox; stops = stops; left = ap (λ (x : Outside). x.left) same; reads = ap (λ (x : Outside). x.reads) same }
+
+unwritten : (e f : Engine) (o p : Outside) → f.has_failed ≡ e.has_failed → p ≡ record o { trace = p.trace } → SameWritten e f o p
+unwritten e f o p fails same = record { held = ap (λ (x : Outside). x.held) same; failed = λ failed. sym fails ∙ failed; writes = subst (λ (x : Outside). o.writes ≤ x.writes) (sym same) (omega arith) }
+
+pub stands_steps : (w : Company) (seed : List ℕ) (config : Config) (d : Daemon) (before : Outside) (e f : Engine) (daemon daemon' : Daemon) (o p : Outside) (c : Client) (event : Event) (gave : Given) → Stands w seed config d before e daemon o → e.client ≡ Some c
+    → event_of (need_of c) ≡ Some event → (m : IsMade w daemon event gave daemon' o.trace p.trace) → is_steppable m.found.past event ≡ true → IsSpoken daemon' (client_replied c gave).course → f ≡ replied e c gave
+    → p ≡ record o { trace = p.trace } → Stands w seed config d before f daemon' p
+stands_steps w seed config d before e f daemon daemon' o p c event gave s is needed m may known new same =
+    let s0 : Stand = stand_after seed config d s.moves in
+    let t : Stand = moved seed config (moved seed config s0 (Finds m.found)) (Steps m.now event) in
+    let hand : IsInHand seed daemon c = in_hand_as seed daemon e c is s.hand.in_hand in
+    record {
+      moves = Steps m.now event ∷ Finds m.found ∷ s.moves;
+      may = may_step_on w seed config d before e daemon daemon' o p.trace c event gave s is needed m may;
+      hand = record {
+        same = m.made;
+        client = ap (λ (x : Engine). x.client) new ∙ given_by_made m.found m.now event c gave e.client s0.client m.gives s.hand.client is;
+        in_hand = subst (λ (x : Engine). IfSome x.client (IsInHand seed daemon')) (sym new) (record { salted = hand.salted; known = known });
+      };
+      heard = heard_on s0 t e f before o p refl s.heard (same_outside e f o p (ap (λ (x : Engine). x.inbox) new) (ap (λ (x : Engine). x.stops) new) same);
+      written = written_on s0 t e f before o p refl s.written (unwritten e f o p (ap (λ (x : Engine). x.has_failed) new) same);
+      trace = traces_step w before.trace o.trace p.trace s0 daemon daemon' event gave s.trace m;
+      asked = asked_on s0 t before.dialling o.dialling p.dialling refl refl (ap (λ (x : Outside). x.dialling) same) s.asked;
+    }
+
+-- a step that is not made yet: the clock was read, over the daemon that was found
+pub stands_waits : (w : Company) (seed : List ℕ) (config : Config) (d : Daemon) (before : Outside) (e : Engine) (daemon daemon' : Daemon) (o p : Outside) (event : Event) → Stands w seed config d before e daemon o
+    → (r : IsWaited w daemon daemon' o.trace p.trace) → ((c : Client) → e.client ≡ Some c → IsSpoken daemon' c.course) → p ≡ record o { trace = p.trace } → Stands w seed config d before e daemon' p
+stands_waits w seed config d before e daemon daemon' o p event s r known same =
+    let s0 : Stand = stand_after seed config d s.moves in
+    let t : Stand = moved seed config (moved seed config s0 (Finds daemon')) (Refuses r.now) in
+    record {
+      moves = Refuses r.now ∷ Finds daemon' ∷ s.moves;
+      may = (tt, subst (λ (x : Daemon). w.others x daemon') s.hand.same r.others, s.may);
+      hand = record { same = refl; client = s.hand.client; in_hand = hands e.client s.hand.in_hand known };
+      heard = heard_on s0 t e e before o p refl s.heard (same_outside e e o p refl refl same);
+      written = written_on s0 t e e before o p refl s.written (unwritten e e o p refl same);
+      trace = (
+        reads_more before.trace.readings o.trace.readings p.trace.readings s0.moments r.now s.trace.0 r.read,
+        r.entries ∙ s.trace.1,
+      );
+      asked = asked_on s0 t before.dialling o.dialling p.dialling refl refl (ap (λ (x : Outside). x.dialling) same) s.asked;
+    }
+  where
+    hands : (x : Option Client) → IfSome x (IsInHand seed daemon) → ((c : Client) → x ≡ Some c → IsSpoken daemon' c.course) → IfSome x (IsInHand seed daemon')
+    hands None h knows = tt
+    hands (Some c) h knows = record { salted = h.salted; known = knows c refl }

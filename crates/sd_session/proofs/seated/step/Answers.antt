@@ -1,0 +1,24 @@
+use Rattle.std.proofs.Common.{◌≡◌, ℕ, sym, subst}
+use Rattle.sd_desk.specs.Desks.{front, mine}
+use Rattle.sd_desk.specs.Steps.{FullAfterForget}
+use Rattle.sd_engine.specs.declared.ending.SessionEnd.{SessionEnd}
+use Rattle.sd_engine.specs.declared.ending.SessionEnd.TheVariants as ends
+use Rattle.sd_session.specs.Stepping.{RefusedAs}
+use Rattle.sd_session.proofs.Sharing.{made_at_desk, refused_by, full_by}
+use Rattle.sd_session.proofs.seated.step.Goals as goal
+
+pub returns-in-Ok-clause-made : goal.returns-in-Ok-clause-made
+returns-in-Ok-clause-made g c = made_at_desk _ _ _ _ c.now-now.result c.args.event _ _ _ c.in-Ok.ensures.made c.now-now.ensures
+
+pub returns-in-Err-clause-refused : goal.returns-in-Err-clause-refused
+returns-in-Err-clause-refused g c = record {
+  others = c.step_with_room.ensures.reaches;
+  now = c.now-now.result;
+  read = c.now-now.ensures;
+  entries = c.in-Err.ensures.mine;
+  why = subst (λ (end : SessionEnd). RefusedAs _ c.args.event end) (sym c.end_of.ensures) (refused_by _ _ c.args.event c.in-Err.refused.fault c.in-Err.ensures.full);
+}
+
+pub returns-in-Err-clause-full : goal.returns-in-Err-clause-full
+returns-in-Err-clause-full g c =
+    subst (λ (end : SessionEnd). (n : ℕ) → end ≡ ends.JournalFull n → FullAfterForget _ _ c.args.event n) (sym c.end_of.ensures) (full_by _ _ c.args.event c.in-Err.refused.fault c.in-Err.ensures.full)

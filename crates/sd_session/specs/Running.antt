@@ -1,0 +1,200 @@
+-- Where a session stands between its turns, and how it ends.
+use Rattle.std.specs.Prelude.{◌≡◌, ◌≢◌, ℕ, ◌≤◌, true, List, [], ◌++◌, length, Option, Some, None, IfSome}
+use Rattle.std.specs.Io.KnownBytes.{Appends, Consumes, IsAtEnd}
+use Rattle.sd_base.specs.Causes.{Rose}
+use Rattle.sd_rules.specs.declared.events.Event.{Event}
+use Rattle.sd_rules.specs.declared.replies.Entry.{Entry}
+use Rattle.sd_rules.specs.declared.replies.Given.{Given}
+use Rattle.sd_rules.specs.Steps.{Daemon, is_full, full_count}
+use Rattle.sd_conf.specs.declared.config.Config.{Config}
+use Rattle.sd_dial.specs.Entries.{Behind}
+use Rattle.sd_dial.specs.Operations.{Operation}
+use Rattle.sd_inquiry.specs.Counting.{HasNotFallen}
+use Rattle.sd_inquiry.specs.Lookups.{with_operations}
+use Rattle.sd_wire.specs.Frames.{IsCut, IsBad}
+use Rattle.sd_rules.specs.Scripts.{is_need_of_kind, key_at}
+use Rattle.sd_course.specs.Courses.{Client, need_of, event_of, script_at}
+use Rattle.sd_session.specs.Spoken.{IsSpoken}
+use Rattle.sd_engine.specs.declared.ending.SessionEnd.{SessionEnd}
+use Rattle.sd_engine.specs.declared.ending.SessionEnd.TheVariants as ends
+use Rattle.sd_engine.specs.Engines.{Engine, replied}
+use Rattle.sd_engine.specs.Turns.{Dialling}
+use Rattle.sd_session.specs.Sessions.{Company, Move, Stand, Trace, AllMay, TracesOn, stand_after, frames_of, last_stops, CountsFalls}
+
+-- What is told of the outside at a moment: the bytes left, the bytes held, the session's own steps, the counts of faults of source and
+-- sink, and what the dialer tells.
+pub record Outside : Type 0 where
+  pub left : Option (List ℕ)
+  pub held : Option (List ℕ)
+  pub trace : Trace
+  pub reads : ℕ
+  pub writes : ℕ
+  pub dialling : Dialling
+
+-- the request in hand has the salts of the session, and the journal knows what it names
+pub record IsInHand (seed : List ℕ) (daemon : Daemon) (client : Client) : Type 0 where
+  pub salted : client.seed ≡ seed
+  pub known : IsSpoken daemon client.course
+
+-- the bytes taken are the frames of the requests heard, and those that were not heard yet
+pub record IsHeardTo (s : Stand) (engine : Engine) (before now : Outside) : Type 0 where
+  pub consumed : Consumes before.left now.left (frames_of s.requests ++ engine.inbox.bytes)
+  pub place : engine.inbox.place ≡ length (frames_of s.requests)
+  pub stops : engine.stops ≡ last_stops s.requests
+  pub reads : before.reads ≤ now.reads
+
+-- the bytes written are those told; where the last answer could not be written whole, the sink has failed
+pub record IsWrittenTo (s : Stand) (engine : Engine) (before now : Outside) : Type 0 where
+  pub written : Appends before.held now.held s.written
+  pub failed : engine.has_failed ≡ true → Rose before.writes now.writes
+  pub writes : before.writes ≤ now.writes
+
+-- the operations asked, and the falls counted; the directories stay
+pub record IsAskedTo (s : Stand) (before now : Dialling) : Type 0 where
+  pub operations : now.operations ≡ with_operations before.operations s.operations
+  pub behind : (i : ℕ) → now.behind i ≡ before.behind i
+  pub falls : CountsFalls before.faults s.falls now.faults
+  pub later : HasNotFallen before.faults now.faults
+
+-- the request in hand
+pub record HasInHand (seed : List ℕ) (s : Stand) (engine : Engine) (daemon : Daemon) : Type 0 where
+  pub same : daemon ≡ s.daemon
+  pub client : engine.client ≡ s.client
+  pub in_hand : IfSome engine.client (IsInHand seed daemon)
+
+-- Between two turns: the moves so far, each of which the session might make, led from the daemon d to this one and to the request in
+-- hand; and what the outside tells is by these moves.
+pub record Stands (w : Company) (seed : List ℕ) (config : Config) (d : Daemon) (before : Outside) (engine : Engine) (daemon : Daemon) (now : Outside) : Type 0 where
+  pub moves : List Move
+  pub may : AllMay w seed config before.dialling.behind d moves
+  pub hand : HasInHand seed (stand_after seed config d moves) engine daemon
+  pub heard : IsHeardTo (stand_after seed config d moves) engine before now
+  pub written : IsWrittenTo (stand_after seed config d moves) engine before now
+  pub trace : TracesOn before.trace (stand_after seed config d moves) now.trace
+  pub asked : IsAskedTo (stand_after seed config d moves) before.dialling now.dialling
+
+-- ---- ends
+
+-- the bytes taken are the frames heard and these
+abbrev pub Took : Stand → List ℕ → Outside → Outside → Type 0
+Took s rest before now = Consumes before.left now.left (frames_of s.requests ++ rest)
+
+-- some bytes behind the frames heard were taken
+pub record TookMore (s : Stand) (before now : Outside) : Type 0 where
+  pub rest : List ℕ
+  pub taken : Took s rest before now
+
+-- the input ended inside a frame
+pub record IsCutOff (s : Stand) (before now : Outside) : Type 0 where
+  pub rest : List ℕ
+  pub some : rest ≢ []
+  pub cut : IsCut rest
+  pub taken : Took s rest before now
+  pub at_end : IsAtEnd now.left
+
+-- bytes behind the frames heard begin no frame, from this place of the input on
+pub record IsBadAt (at : ℕ) (s : Stand) (before now : Outside) : Type 0 where
+  pub rest : List ℕ
+  pub bad : IsBad rest
+  pub place : at ≡ length (frames_of s.requests)
+  pub taken : Took s rest before now
+
+-- so many bytes, 1 GiB, were read, with no whole frame behind those heard, and one more came
+pub record IsTooLong (count : ℕ) (s : Stand) (before now : Outside) : Type 0 where
+  pub rest : List ℕ
+  pub piece : List ℕ
+  pub limit : count ≡ 1073741824
+  pub read : length (frames_of s.requests ++ rest) ≡ 1073741824
+  pub one : length piece ≡ 1
+  pub cut : IsCut rest
+  pub taken : Took s (rest ++ piece) before now
+
+-- the source failed, and no whole frame is behind those heard
+pub record IsUnread (s : Stand) (before now : Outside) : Type 0 where
+  pub rest : List ℕ
+  pub cut : IsCut rest
+  pub taken : Took s rest before now
+  pub failed : Rose before.reads now.reads
+
+-- the daemon has no room for the event that the request in hand needs
+pub record IsFullFor (w : Company) (count : ℕ) (s : Stand) : Type 0 where
+  pub client : Client
+  pub in_hand : s.client ≡ Some client
+  pub event : Event
+  pub needed : event_of (need_of client) ≡ Some event
+  pub full : is_full s.daemon event ≡ true
+  pub counted : count ≡ full_count s.daemon
+  pub forgot : w.full s event count
+
+-- Why a session ended where it stood. But for a fault of the sink, a full journal and want of memory, each request that was heard is
+-- carried out.
+abbrev pub EndsAs : Company → SessionEnd → Stand → Outside → Outside → Type 0
+EndsAs w ends.Closed s before now = (s.client ≡ None) × Took s [] before now × IsAtEnd now.left
+EndsAs w ends.Stopped s before now = (s.client ≡ None) × (last_stops s.requests ≡ true) × TookMore s before now
+EndsAs w ends.ReadFault s before now = (s.client ≡ None) × IsUnread s before now
+EndsAs w ends.WriteFault s before now = (s.client ≡ None) × Rose before.writes now.writes × TookMore s before now
+EndsAs w (ends.BadFrame at) s before now = (s.client ≡ None) × IsBadAt at s before now
+EndsAs w ends.Cut s before now = (s.client ≡ None) × IsCutOff s before now
+EndsAs w (ends.Long count) s before now = (s.client ≡ None) × IsTooLong count s before now
+EndsAs w (ends.JournalFull count) s before now = IsFullFor w count s × TookMore s before now
+EndsAs w ends.Memory s before now = TookMore s before now
+
+-- what a lookup or a bind asked for which memory was then wanting
+pub record AskedMore (s : Stand) (before now : Outside) : Type 0 where
+  pub more : List Operation
+  pub told : now.dialling.operations ≡ with_operations before.dialling.operations (s.operations ++ more)
+
+-- The operations asked are those of the moves; where memory was wanting, the last lookup or bind is no move.
+abbrev pub Asked : SessionEnd → Stand → Outside → Outside → Type 0
+Asked ends.Memory s before now = AskedMore s before now
+Asked _ s before now = now.dialling.operations ≡ with_operations before.dialling.operations s.operations
+
+-- a session from the daemon d on: its moves, and why it ended there
+pub record Ran (w : Company) (seed : List ℕ) (config : Config) (d : Daemon) (before : Outside) (ending : SessionEnd) (daemon : Daemon) (now : Outside) : Type 0 where
+  pub moves : List Move
+  pub may : AllMay w seed config before.dialling.behind d moves
+  pub stepped : daemon ≡ (stand_after seed config d moves).daemon
+  pub written : Appends before.held now.held (stand_after seed config d moves).written
+  pub trace : TracesOn before.trace (stand_after seed config d moves) now.trace
+  pub operations : Asked ending (stand_after seed config d moves) before now
+  pub falls : CountsFalls before.dialling.faults (stand_after seed config d moves).falls now.dialling.faults
+  pub why : EndsAs w ending (stand_after seed config d moves) before now
+  pub reads : before.reads ≤ now.reads
+  pub writes : before.writes ≤ now.writes
+
+-- ---- parts of a turn
+
+-- the outside at a moment
+abbrev pub outside_at : Option (List ℕ) → Option (List ℕ) → Trace → ℕ → ℕ → Dialling → Outside
+outside_at left held trace reads writes dialling = record { left = left; held = held; trace = trace; reads = reads; writes = writes; dialling = dialling }
+
+-- the same with other own steps
+abbrev pub tracing : Outside → Trace → Outside
+tracing o trace = record { left = o.left; held = o.held; trace = trace; reads = o.reads; writes = o.writes; dialling = o.dialling }
+
+-- an engine whose request in hand needs an event, which it named
+pub record Awaits (daemon : Daemon) (engine : Engine) (event : Event) : Type 0 where
+  pub client : Client
+  pub is : engine.client ≡ Some client
+  pub needed : event_of (need_of client) ≡ Some event
+  pub kind : is_need_of_kind (key_at (script_at client)) (need_of client) ≡ true
+  pub known : IsSpoken daemon client.course
+  pub ready : engine.is_ready ≡ true
+
+-- what a step gave was told to the engine, or memory was wanting
+abbrev pub TellsOf : Option SessionEnd → Engine → Given → Engine → Type 0
+TellsOf None old gave new = IfSome old.client (λ c. new ≡ replied old c gave)
+TellsOf (Some ending) old gave new = ending ≡ ends.Memory
+
+-- what goes on: wherever the session stood before, it stands after
+abbrev pub GoesOn : Company → List ℕ → Config → Engine → Daemon → Outside → Engine → Daemon → Outside → Type 0
+GoesOn w seed config e daemon o f daemon' p = (d : Daemon) (before : Outside) → Stands w seed config d before e daemon o → Stands w seed config d before f daemon' p
+
+-- what ends: wherever the session stood before, it ran from there to this end
+abbrev pub EndsIn : Company → List ℕ → Config → SessionEnd → Engine → Daemon → Outside → Daemon → Outside → Type 0
+EndsIn w seed config ending e daemon o daemon' p = (d : Daemon) (before : Outside) → Stands w seed config d before e daemon o → Ran w seed config d before ending daemon' p
+
+-- a turn goes on, or ends the session
+abbrev pub Turned : Company → List ℕ → Config → Option SessionEnd → Engine → Daemon → Outside → Engine → Daemon → Outside → Type 0
+Turned w seed config None e daemon o f daemon' p = GoesOn w seed config e daemon o f daemon' p
+Turned w seed config (Some ending) e daemon o f daemon' p = EndsIn w seed config ending e daemon o daemon' p

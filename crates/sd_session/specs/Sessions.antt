@@ -1,0 +1,199 @@
+-- A session: the moves that the scripts of its requests call for, over a daemon that others may move on in between.
+use Rattle.std.specs.Prelude.{◌≡◌, ℕ, ◌+◌, ◌^◌, ◌-◌, ◌≤◌, min, Bool, true, false, List, [], ◌∷◌, ◌++◌, reverse, take, Option, Some, None, if◌then◌else◌}
+use Rattle.std.specs.Option.{option_map}
+use Rattle.sd_base.specs.declared.Why.TheVariants as whys
+use Rattle.sd_rules.specs.declared.keys.Key.{Key}
+use Rattle.sd_rules.specs.declared.events.Event.{Event}
+use Rattle.sd_rules.specs.declared.replies.Entry.{Entry}
+use Rattle.sd_rules.specs.declared.settings.Settings.{Settings}
+use Rattle.sd_rules.specs.declared.tasks.Bound.{Bound}
+use Rattle.sd_rules.specs.declared.tasks.Bound.TheVariants as bounds
+use Rattle.sd_rules.specs.declared.tasks.Fetched.{Fetched}
+use Rattle.sd_rules.specs.declared.tasks.Fetched.TheVariants as fetches
+use Rattle.sd_rules.specs.declared.tasks.Need.TheVariants as needs
+use Rattle.sd_rules.specs.declared.tasks.Said.{Said}
+use Rattle.sd_rules.specs.Steps.{Daemon, after, entry_made, given, is_full, is_steppable}
+use Rattle.sd_conf.specs.declared.config.Config.{Config}
+use Rattle.sd_dial.specs.Entries.{Behind}
+use Rattle.sd_dial.specs.Operations.{Operation}
+use Rattle.sd_asking.specs.Binding.{told_bind, IsToldBind}
+use Rattle.sd_asking.specs.Rooms.{AreShort}
+use Rattle.sd_fetch.specs.Lookup.{looked_up}
+use Rattle.sd_fetch.specs.Told.{searches_of, first_failure}
+use Rattle.sd_inquiry.specs.Lookups.{LookupOperations, IsToldFetch}
+use Rattle.sd_inquiry.specs.Binds.{BindOperations}
+use Rattle.sd_wire.specs.declared.requests.Request.{Request}
+use Rattle.sd_wire.specs.Frames.{frame_of}
+use Rattle.sd_course.specs.Courses.{Client, need_of, event_of, client_told, client_replied, client_fetched, client_bound}
+use Rattle.sd_engine.specs.Answering.{reply_of}
+use Rattle.sd_engine.specs.Engines.{client_of, is_stop}
+
+-- What a session does: it finds the daemon as others have moved it on; it hears the request of a frame; the event that the request in
+-- hand needs is stepped at a moment handed in, or is not; a server is asked for a key, or asked to bind, with these operations; the
+-- client is told, or so many bytes of its reply are written where the sink fails; the request in hand is carried out.
+pub data Move : Type 0 where
+  Finds : Daemon → Move
+  Hears : Request → Move
+  Steps : ℕ → Event → Move
+  Refuses : ℕ → Move
+  Fetches : Fetched → List Operation → Move
+  Binds : Bound → List Operation → Move
+  Tells : Said → Move
+  Breaks : Said → ℕ → Move
+  Finishes : Move
+
+-- Where a session stands: the daemon; the one that its last own step made, at first the one that it began with; the request in hand;
+-- the requests heard, the newest first; the bytes written; the own entries, the moments handed in and the operations asked, the first
+-- first; and how many lookups and binds fell with their link.
+pub record Stand : Type 0 where
+  pub daemon : Daemon
+  pub own_end : Daemon
+  pub client : Option Client
+  pub requests : List Request
+  pub written : List ℕ
+  pub own : List Entry
+  pub moments : List ℕ
+  pub operations : List Operation
+  pub falls : ℕ
+
+abbrev pub begun : Daemon → Stand
+begun d = record { daemon = d; own_end = d; client = None; requests = []; written = []; own = []; moments = []; operations = []; falls = 0 }
+
+abbrev pub fetch_falls : Fetched → ℕ
+fetch_falls (fetches.Failed whys.Link) = 1
+fetch_falls _ = 0
+
+abbrev pub bind_falls : Bound → ℕ
+bind_falls (bounds.Failed whys.Link) = 1
+bind_falls _ = 0
+
+abbrev pub moved : List ℕ → Config → Stand → Move → Stand
+moved seed config s (Finds found) = record s { daemon = found }
+moved seed config s (Hears request) = record s { client = Some (client_of seed config.settings request); requests = request ∷ s.requests }
+moved seed config s (Steps now event) = record s {
+  daemon = after s.daemon now event;
+  own_end = after s.daemon now event;
+  own = s.own ++ entry_made s.daemon now event ∷ [];
+  client = option_map (λ c. client_replied c (given s.daemon now event)) s.client;
+  moments = s.moments ++ now ∷ [];
+}
+moved seed config s (Refuses now) = record s { moments = s.moments ++ now ∷ [] }
+moved seed config s (Fetches fetched operations) = record s {
+  client = option_map (λ c. client_fetched c fetched) s.client;
+  operations = s.operations ++ operations;
+  falls = s.falls + fetch_falls fetched;
+}
+moved seed config s (Binds bound operations) = record s {
+  client = option_map (λ c. client_bound c bound) s.client;
+  operations = s.operations ++ operations;
+  falls = s.falls + bind_falls bound;
+}
+moved seed config s (Tells said) = record s { client = option_map client_told s.client; written = s.written ++ reply_of config.pwfield said }
+moved seed config s (Breaks said count) = record s { client = option_map client_told s.client; written = s.written ++ take count (reply_of config.pwfield said) }
+moved seed config s Finishes = record s { client = None }
+
+-- where a session stands after moves, the newest first
+abbrev pub stand_after : List ℕ → Config → Daemon → List Move → Stand
+stand_after seed config d [] = begun d
+stand_after seed config d (move ∷ moves) = moved seed config (stand_after seed config d moves) move
+
+-- ---- which moves a session may make
+
+-- the event that the request in hand needs, which the daemon has room for
+pub record NeedsStep (s : Stand) (event : Event) : Type 0 where
+  pub client : Client
+  pub in_hand : s.client ≡ Some client
+  pub needed : event_of (need_of client) ≡ Some event
+  pub steppable : is_steppable s.daemon.past event ≡ true
+  pub room : is_full s.daemon event ≡ false
+
+-- The server that was picked is asked for the key of the request in hand. Where the directory behind it is told, its entries decide.
+pub record NeedsFetch (config : Config) (behind : ℕ → Option Behind) (s : Stand) (fetched : Fetched) (operations : List Operation) : Type 0 where
+  pub client : Client
+  pub in_hand : s.client ≡ Some client
+  pub server : ℕ
+  pub key : Key
+  pub needed : need_of client ≡ needs.Fetch server key
+  pub asked : LookupOperations config key server fetched operations
+  pub told : (b : Behind) → behind server ≡ Some b → AreShort b.entries → IsToldFetch fetched (first_failure b 0 1 (searches_of config b.entries key)) (looked_up config b.entries key)
+
+pub record NeedsBind (behind : ℕ → Option Behind) (s : Stand) (bound : Bound) (operations : List Operation) : Type 0 where
+  pub client : Client
+  pub in_hand : s.client ≡ Some client
+  pub server : ℕ
+  pub dn : List ℕ
+  pub password : List ℕ
+  pub needed : need_of client ≡ needs.Bind server dn password
+  pub asked : BindOperations dn password server bound operations
+  pub told : (b : Behind) → behind server ≡ Some b → IsToldBind bound (told_bind b 0 1 dn password)
+
+pub record NeedsSay (s : Stand) (said : Said) : Type 0 where
+  pub client : Client
+  pub in_hand : s.client ≡ Some client
+  pub needed : need_of client ≡ needs.Say said
+
+pub record NeedsNothing (s : Stand) : Type 0 where
+  pub client : Client
+  pub in_hand : s.client ≡ Some client
+  pub needed : need_of client ≡ needs.End
+
+-- The company that a session has at its daemon: what others may make of the daemon between two moves, and what besides the want of
+-- room is so where the session ends with a full journal.
+pub record Company : Type 1 where
+  pub others : Daemon → Daemon → Type 0
+  pub full : Stand → Event → ℕ → Type 0
+
+-- nobody else: the daemon stays
+abbrev pub alone : Company
+alone = record { others = λ d e. e ≡ d; full = λ s event count. Unit {0} }
+
+abbrev pub May : Company → Config → (ℕ → Option Behind) → Stand → Move → Type 0
+May w config behind s (Finds found) = w.others s.daemon found
+May w config behind s (Hears request) = s.client ≡ None
+May w config behind s (Steps now event) = NeedsStep s event
+May w config behind s (Refuses now) = Unit {0}
+May w config behind s (Fetches fetched operations) = NeedsFetch config behind s fetched operations
+May w config behind s (Binds bound operations) = NeedsBind behind s bound operations
+May w config behind s (Tells said) = NeedsSay s said
+May w config behind s (Breaks said count) = NeedsSay s said
+May w config behind s Finishes = NeedsNothing s
+
+-- each move is one that the session may make where it stands
+abbrev pub AllMay : Company → List ℕ → Config → (ℕ → Option Behind) → Daemon → List Move → Type 0
+AllMay w seed config behind d [] = Unit {0}
+AllMay w seed config behind d (move ∷ moves) = May w config behind (stand_after seed config d moves) move × AllMay w seed config behind d moves
+
+-- ---- the input
+
+-- the frames of requests, of which the newest is listed first
+abbrev pub frames_of : List Request → List ℕ
+frames_of [] = []
+frames_of (request ∷ requests) = frames_of requests ++ frame_of request
+
+-- the last request heard is the operator's stop
+abbrev pub last_stops : List Request → Bool
+last_stops [] = false
+last_stops (request ∷ requests) = is_stop request
+
+-- a clock that tells its readings told some readings more
+abbrev pub ReadsOn : Option (List ℕ) → List ℕ → Option (List ℕ) → Type 0
+ReadsOn before moments None = Unit {0}
+ReadsOn None moments (Some readings) = ⊥
+ReadsOn (Some earlier) moments (Some readings) = readings ≡ earlier ++ moments
+
+-- What is told of a session's own steps: the readings of its clock, and the entries that it made.
+pub record Trace : Type 0 where
+  pub readings : Option (List ℕ)
+  pub entries : List Entry
+
+-- of a core all entries are told
+abbrev pub trace_of : Option (List ℕ) → Daemon → Trace
+trace_of readings d = record { readings = readings; entries = reverse d.past }
+
+-- the moments of a session were read, and its entries made
+abbrev pub TracesOn : Trace → Stand → Trace → Type 0
+TracesOn before s now = ReadsOn before.readings s.moments now.readings × (now.entries ≡ before.entries ++ s.own)
+
+-- so many faults were counted, unless the count is at its end
+abbrev pub CountsFalls : ℕ → ℕ → ℕ → Type 0
+CountsFalls before falls now = min (before + falls) (2 ^ 64 - 1) ≤ now

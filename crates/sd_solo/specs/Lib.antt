@@ -1,4 +1,0 @@
-pub mod Sessions
-pub mod Stepping
-pub mod Running
-pub mod Withdrawing
