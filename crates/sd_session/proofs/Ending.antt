@@ -151,7 +151,7 @@ pub ran_refused : (w : Company) (seed : List ℕ) (config : Config) (d : Daemon)
     → p ≡ record o { trace = p.trace } → Ran w seed config d before ending daemon' p
 ran_refused w seed config d before ending e daemon daemon' o p c event s is needed r forgot same = record {
   moves = Refuses r.now ∷ Finds daemon' ∷ s.moves;
-  may = (tt, subst (λ (x : Daemon). w.others x daemon') s.hand.same r.others, s.may);
+  may = (tt, (subst (λ (x : Daemon). w.others x daemon') s.hand.same r.others, s.may));
   stepped = refl;
   written = subst (λ (x : Outside). Appends before.held x.held s0.written) (sym same) s.written.written;
   trace = (reads_more before.trace.readings o.trace.readings p.trace.readings s0.moments r.now s.trace.0 r.read, r.entries ∙ s.trace.1);

@@ -1,6 +1,7 @@
 -- A step of a core.
 use Rattle.std.proofs.Common.{◌≡◌, ◌∙◌, ℕ, true, List, [], ◌∷◌, ◌++◌, refl, sym, ap}
 use Rattle.std.specs.Prelude.{reverse}
+use Rattle.std.proofs.lemmas.Grind.{reverse_onto}
 use Rattle.sd_rules.specs.declared.events.Event.{Event}
 use Rattle.sd_rules.specs.declared.replies.Entry.{Entry}
 use Rattle.sd_rules.specs.declared.replies.StepFault.{StepFault}
@@ -18,7 +19,7 @@ refused_as d event faults.Memory only = tt
 
 -- the entry is the last of the journal
 pub journal_more : (d e : Daemon) (now : ℕ) (event : Event) → e ≡ after d now event → reverse e.past ≡ reverse d.past ++ entry_made d now event ∷ []
-journal_more d e now event is = ap (λ (x : Daemon). reverse x.past) is
+journal_more d e now event is = ap (λ (x : Daemon). reverse x.past) is ∙ reverse_onto d.past (entry_made d now event) []
 
 pub journal_same : (d e : Daemon) → e ≡ d → reverse e.past ≡ reverse d.past
 journal_same d e is = ap (λ (x : Daemon). reverse x.past) is

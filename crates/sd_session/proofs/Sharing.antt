@@ -1,9 +1,9 @@
 -- Steps at a desk, as moves of a session.
 use Rattle.std.proofs.Common.{◌≡◌, ◌∙◌, ℕ, Bool, true, false, cond, ◌&&◌, List, [], ◌∷◌, ◌++◌, Option, Result, Ok, Err, refl, sym, ap, subst}
 use Rattle.std.specs.Prelude.{IfOk, IfErr, OnErr}
-use Rattle.sd_base.specs.declared.Why.{Why}
 use Rattle.sd_rules.specs.declared.events.Event.{Event}
 use Rattle.sd_rules.specs.declared.events.Event.TheVariants as events
+use Rattle.sd_rules.specs.declared.records.Answered.TheVariants.{Found, Absent}
 use Rattle.sd_rules.specs.declared.replies.Entry.{Entry}
 use Rattle.sd_rules.specs.declared.replies.Given.{Given}
 use Rattle.sd_rules.specs.declared.replies.Refused.{Refused}
@@ -16,12 +16,16 @@ use Rattle.sd_rules.proofs.ReachingLaws.{reaches_self, reaches_through}
 use Rattle.sd_conf.specs.declared.config.Config.{Config}
 use Rattle.sd_clock.specs.Readings.{FollowsOn}
 use Rattle.sd_dial.specs.Entries.{Behind}
-use Rattle.sd_desk.specs.Steps.{MadeEntry, Collected, Forgot, WasFull, FullAfterForget}
+use Rattle.sd_desk.specs.declared.seat.DeskSeat.{DeskSeat}
+use Rattle.sd_desk.specs.Desks.{IsSameSeat}
+use Rattle.sd_desk.specs.Steps.{MayStep, MadeOver, MadeEntry, Collected, WasFull, FullAfterForget}
+use Rattle.sd_desk.proofs.Reached.{speaks_reached}
 use Rattle.sd_engine.specs.declared.ending.SessionEnd.{SessionEnd}
 use Rattle.sd_engine.specs.declared.ending.SessionEnd.TheVariants as ends
 use Rattle.sd_engine.specs.Engines.{Engine}
 use Rattle.sd_session.specs.Desks.{at_desk}
-use Rattle.sd_session.specs.Running.{Outside, Stands, Ran, tracing}
+use Rattle.sd_engine.specs.Turns.{Dialling}
+use Rattle.sd_session.specs.Running.{Outside, Stands, Ran, tracing, outside_at}
 use Rattle.sd_session.specs.Sessions.{Trace, Move, Finds, Hears, Steps, Refuses, Fetches, Binds, Tells, Breaks, Finishes, Stand, AllMay, stand_after}
 use Rattle.sd_session.specs.Stepping.{IsMade, IsRefused, IsWaited, RefusedAs, end_of}
 use Rattle.sd_session.specs.Withdrawing.{Try, after_tries, gives_up, AllGiveUp, Withdraws, MayWithdraw, Session, is_abrupt}
@@ -62,21 +66,51 @@ pub refused_by : (old new : Daemon) (event : Event) (fault : StepFault) → ((n 
 refused_by old new event (faults.JournalFull n) full = let was : WasFull new event n = (full n refl).full in (was.full, was.places)
 refused_by old new event faults.Memory full = tt
 
--- a step that was refused as full, and is so again after a forget
-pub full_again : (old forgot new : Daemon) (others : List Entry) (event : Event) (n : ℕ) → Forgot old forgot others → Reaches forgot new → WasFull new event n → FullAfterForget old new event n
-full_again old forgot new others event n f to full = record { before = f.before; reached = f.reached; forgot = subst (λ (x : Daemon). Reaches x new) f.front to; full = full }
-
 pub full_from : (first old new : Daemon) (event : Event) (n : ℕ) → Reaches first old → FullAfterForget old new event n → FullAfterForget first new event n
 full_from first old new event n to f = record { before = f.before; reached = reaches_through first old f.before to f.reached; forgot = f.forgot; full = f.full }
+
+-- ---- what is known of a journal is known of a later one
+
+pub may_later : (f g : Daemon) (event : Event) → Reaches f g → MayStep f event → MayStep g event
+may_later f g (events.Kept row) to may = may
+may_later f g (events.Answer r (Found found)) to may = record { key = may.key; speaks = speaks_reached r may.key f g may.speaks to; of_kind = may.of_kind }
+may_later f g (events.Answer r Absent) to may = tt
+may_later f g _ to may = tt
+
+pub later_made : (old mid new : Daemon) (first second third : List Entry) (now : ℕ) (event event' : Event) (r : Result Given Refused) → Reaches old mid → second ≡ first → event' ≡ event
+    → IfOk r (λ (gave : Given). MadeEntry mid new second third now event' gave) → IfOk r (λ (gave : Given). MadeEntry old new first third now event gave)
+later_made old mid new first second third now event event' (Ok gave) to mine same m =
+    subst (λ (x : Event). MadeEntry old new first third now x gave) same
+    (record { before = m.before; reached = reaches_through old mid m.before to m.reached; made = subst (λ (es : List Entry). MadeOver m.before new es third now event' gave) mine m.made })
+later_made old mid new first second third now event event' (Err refused) to mine same m = tt
+
+pub later_full : (old mid new : Daemon) (event event' : Event) (r : Result Given Refused) → Reaches old mid → event' ≡ event
+    → IfErr r (λ (refused : Refused). (n : ℕ) → refused.fault ≡ faults.JournalFull n → FullAfterForget mid new event' n)
+    → IfErr r (λ (refused : Refused). (n : ℕ) → refused.fault ≡ faults.JournalFull n → FullAfterForget old new event n)
+later_full old mid new event event' (Ok gave) to same full = tt
+later_full old mid new event event' (Err refused) to same full = λ n is. subst (λ (x : Event). FullAfterForget old new x n) same (full_from old mid new event' n to (full n is))
+
+pub same_through : (a b c : DeskSeat) → IsSameSeat a b → IsSameSeat b c → IsSameSeat a c
+same_through a b c f g = (g.0 ∙ f.0, g.1 ∙ f.1, g.2 ∙ f.2)
+
+-- the same but for entries that are the same
+pub same_told : (left held readings : Option (List ℕ)) (reads writes : ℕ) (dialling : Dialling) (entries entries' : List Entry) → entries' ≡ entries
+    → outside_at left held (record { readings = readings; entries = entries' }) reads writes dialling ≡ outside_at left held (record { readings = readings; entries = entries }) reads writes dialling
+same_told left held readings reads writes dialling entries entries' same = ap (λ (es : List Entry). outside_at left held (record { readings = readings; entries = es }) reads writes dialling) same
+
+pub session_as : (seed seed' : List ℕ) (config config' : Config) (d : Daemon) (before : Outside) (ending : SessionEnd) (daemon : Daemon) (now : Outside) → seed ≡ seed' → config ≡ config'
+    → Session at_desk seed config d before ending daemon now → Session at_desk seed' config' d before ending daemon now
+session_as seed seed' config config' d before ending daemon now salts configured s =
+    subst (λ (x : List ℕ). Session at_desk x config' d before ending daemon now) salts (subst (λ (x : Config). Session at_desk seed x d before ending daemon now) configured s)
 
 -- ---- what moves reach
 
 one_step : (d : Daemon) (now : ℕ) (event : Event) → is_steppable d.past event ≡ true → Reaches d (after d now event)
-one_step d now event may = record { moves = reaching.Append now event ∷ []; can = both may; reached = refl }
+one_step d now event may = record { moves = reaching.Append now event ∷ []; can = both (is_steppable d.past event) may; reached = refl }
   where
-    both : {a : Bool} → a ≡ true → a && true ≡ true
-    both {true} h = refl
-    both {false} h = h
+    both : (a : Bool) → a ≡ true → a && true ≡ true
+    both true h = refl
+    both false h = h
 
 pub reach_moves : (seed : List ℕ) (config : Config) (behind : ℕ → Option Behind) (d : Daemon) (moves : List Move) → AllMay at_desk seed config behind d moves → Reaches d (stand_after seed config d moves).daemon
 reach_moves seed config behind d [] may = reaches_self d

@@ -418,8 +418,7 @@ pub may_step_on : (w : Company) (seed : List ℕ) (config : Config) (d : Daemon)
     → event_of (need_of c) ≡ Some event → (m : IsMade w daemon event gave daemon' o.trace later) → is_steppable m.found.past event ≡ true → AllMay w seed config before.dialling.behind d (Steps m.now event ∷ Finds m.found ∷ s.moves)
 may_step_on w seed config d before e daemon daemon' o later c event gave s is needed m may = (
   record { client = c; in_hand = sym s.hand.client ∙ is; needed = needed; steppable = may; room = m.room },
-  subst (λ (x : Daemon). w.others x m.found) s.hand.same m.others,
-  s.may,
+  (subst (λ (x : Daemon). w.others x m.found) s.hand.same m.others, s.may),
 )
 
 pub traces_step : (w : Company) (before o p : Trace) (s : Stand) (daemon daemon' : Daemon) (event : Event) (gave : Given) → TracesOn before s o → (m : IsMade w daemon event gave daemon' o p)
@@ -456,6 +455,10 @@ stands_steps w seed config d before e f daemon daemon' o p c event gave s is nee
       asked = asked_on s0 t before.dialling o.dialling p.dialling refl refl (ap (λ (x : Outside). x.dialling) same) s.asked;
     }
 
+knows_now : (seed : List ℕ) (daemon daemon' : Daemon) (x : Option Client) → IfSome x (IsInHand seed daemon) → ((c : Client) → x ≡ Some c → IsSpoken daemon' c.course) → IfSome x (IsInHand seed daemon')
+knows_now seed daemon daemon' None h knows = tt
+knows_now seed daemon daemon' (Some c) h knows = record { salted = h.salted; known = knows c refl }
+
 -- a step that is not made yet: the clock was read, over the daemon that was found
 pub stands_waits : (w : Company) (seed : List ℕ) (config : Config) (d : Daemon) (before : Outside) (e : Engine) (daemon daemon' : Daemon) (o p : Outside) (event : Event) → Stands w seed config d before e daemon o
     → (r : IsWaited w daemon daemon' o.trace p.trace) → ((c : Client) → e.client ≡ Some c → IsSpoken daemon' c.course) → p ≡ record o { trace = p.trace } → Stands w seed config d before e daemon' p
@@ -464,8 +467,8 @@ stands_waits w seed config d before e daemon daemon' o p event s r known same =
     let t : Stand = moved seed config (moved seed config s0 (Finds daemon')) (Refuses r.now) in
     record {
       moves = Refuses r.now ∷ Finds daemon' ∷ s.moves;
-      may = (tt, subst (λ (x : Daemon). w.others x daemon') s.hand.same r.others, s.may);
-      hand = record { same = refl; client = s.hand.client; in_hand = hands e.client s.hand.in_hand known };
+      may = (tt, (subst (λ (x : Daemon). w.others x daemon') s.hand.same r.others, s.may));
+      hand = record { same = refl; client = s.hand.client; in_hand = knows_now seed daemon daemon' e.client s.hand.in_hand known };
       heard = heard_on s0 t e e before o p refl s.heard (same_outside e e o p refl refl same);
       written = written_on s0 t e e before o p refl s.written (unwritten e e o p refl same);
       trace = (
@@ -474,7 +477,20 @@ stands_waits w seed config d before e daemon daemon' o p event s r known same =
       );
       asked = asked_on s0 t before.dialling o.dialling p.dialling refl refl (ap (λ (x : Outside). x.dialling) same) s.asked;
     }
-  where
-    hands : (x : Option Client) → IfSome x (IsInHand seed daemon) → ((c : Client) → x ≡ Some c → IsSpoken daemon' c.course) → IfSome x (IsInHand seed daemon')
-    hands None h knows = tt
-    hands (Some c) h knows = record { salted = h.salted; known = knows c refl }
+
+-- the daemon is found as others left it
+pub stands_finds : (w : Company) (seed : List ℕ) (config : Config) (d : Daemon) (before : Outside) (e : Engine) (daemon daemon' : Daemon) (o p : Outside) → Stands w seed config d before e daemon o
+    → w.others daemon daemon' → ((c : Client) → e.client ≡ Some c → IsSpoken daemon' c.course) → p ≡ o → Stands w seed config d before e daemon' p
+stands_finds w seed config d before e daemon daemon' o p s others known same =
+    let s0 : Stand = stand_after seed config d s.moves in
+    let t : Stand = moved seed config s0 (Finds daemon') in
+    subst (λ (x : Outside). Stands w seed config d before e daemon' x) (sym same)
+    (record {
+      moves = Finds daemon' ∷ s.moves;
+      may = (subst (λ (x : Daemon). w.others x daemon') s.hand.same others, s.may);
+      hand = record { same = refl; client = s.hand.client; in_hand = knows_now seed daemon daemon' e.client s.hand.in_hand known };
+      heard = heard_on s0 t e e before o o refl s.heard (record { inbox = refl; stops = refl; left = refl; reads = refl });
+      written = written_on s0 t e e before o o refl s.written (record { held = refl; failed = λ failed. failed; writes = omega arith });
+      trace = s.trace;
+      asked = asked_on s0 t before.dialling o.dialling o.dialling refl refl refl s.asked;
+    })

@@ -305,9 +305,9 @@ turn_collect w seed config ticket e f daemon o p known t =
     ])
 
 -- what follows a turn that named an event
-pub turned_on : (w : Company) (seed : List ℕ) (config : Config) (r : Option SessionEnd) (e f h : Engine) (daemon daemon' : Daemon) (o p q : Outside) → GoesOn w seed config e daemon o f daemon p → Turned w seed config r f daemon p h daemon' q → Turned w seed config r e daemon o h daemon' q
-turned_on w seed config None e f h daemon daemon' o p q goes turned = λ d before s. turned d before (goes d before s)
-turned_on w seed config (Some ending) e f h daemon daemon' o p q goes turned = λ d before s. turned d before (goes d before s)
+pub turned_on : (w : Company) (seed : List ℕ) (config : Config) (r : Option SessionEnd) (e f h : Engine) (daemon mid daemon' : Daemon) (o p q : Outside) → GoesOn w seed config e daemon o f mid p → Turned w seed config r f mid p h daemon' q → Turned w seed config r e daemon o h daemon' q
+turned_on w seed config None e f h daemon mid daemon' o p q goes turned = λ d before s. turned d before (goes d before s)
+turned_on w seed config (Some ending) e f h daemon mid daemon' o p q goes turned = λ d before s. turned d before (goes d before s)
 
 some_is : (e : Engine) (c : Client) → e.client ≡ Some c → IsSome e.client
 some_is e c is = ap is_some is

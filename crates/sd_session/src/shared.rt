@@ -17,6 +17,8 @@ use crate::telling::tell;
 use crate::withdrawing::is_abrupt;
 use sd_base::{Sink, Source};
 use sd_clock::{Clock, Gate};
+use sd_conf::Config;
+use sd_creds::Salts;
 use sd_desk::{Desk, DeskSeat};
 use sd_dial::Dialer;
 use sd_engine::{Engine, SessionEnd, Turn};
@@ -83,6 +85,8 @@ fn turn<R: Wait, S: Source, W: Sink, D: Dialer, C: Clock, G: Gate>(
     desk: &Desk,
     seat: &mut DeskSeat,
     engine: &mut Engine,
+    config: &Config,
+    salts: &Salts,
     source: &mut S,
     sink: &mut W,
     dialer: &mut D,
@@ -95,9 +99,9 @@ fn turn<R: Wait, S: Source, W: Sink, D: Dialer, C: Clock, G: Gate>(
     ensures own { IsOwn desk.now seat.new }
     ensures free { HoldsNoTurn seat.new }
     ensures same { IsSameSeat seat.old seat.new }
-    ensures turned { running.Turned desks.at_desk (salts_of desk.now) (config_of desk.now) result engine.old (front desk.now seat.old) (running.outside_at (S.left source.old) (W.held sink.old) (desks.trace_at (C.readings clock.old) seat.old) (S.faults source.old) (W.faults sink.old) (record { operations = D.operations dialer.old; faults = D.faults dialer.old; behind = D.behind dialer.old })) engine.new (front desk.now seat.new) (running.outside_at (S.left source.new) (W.held sink.new) (desks.trace_at (C.readings clock.new) seat.new) (S.faults source.new) (W.faults sink.new) (record { operations = D.operations dialer.new; faults = D.faults dialer.new; behind = D.behind dialer.new })) }
+    ensures turned { running.Turned desks.at_desk salts.now config.now result engine.old (front desk.now seat.old) (running.outside_at (S.left source.old) (W.held sink.old) (desks.trace_at (C.readings clock.old) seat.old) (S.faults source.old) (W.faults sink.old) (record { operations = D.operations dialer.old; faults = D.faults dialer.old; behind = D.behind dialer.old })) engine.new (front desk.now seat.new) (running.outside_at (S.left source.new) (W.held sink.new) (desks.trace_at (C.readings clock.new) seat.new) (S.faults source.new) (W.faults sink.new) (record { operations = D.operations dialer.new; faults = D.faults dialer.new; behind = D.behind dialer.new })) }
 {
-    match engine.turn(desk.config(), desk.salts(), source, sink, dialer, gate) {
+    match engine.turn(config, salts, source, sink, dialer, gate) {
         Turn::Again => None,
         Turn::Step(event) => carry_out(rt, desk, seat, engine, clock, event),
         Turn::Collect(ticket) => collect(rt, desk, seat, engine, clock, ticket),
@@ -111,6 +115,8 @@ fn run<R: Wait, S: Source, W: Sink, D: Dialer, C: Clock, G: Gate>(
     desk: &Desk,
     seat: &mut DeskSeat,
     engine: &mut Engine,
+    config: &Config,
+    salts: &Salts,
     source: &mut S,
     sink: &mut W,
     dialer: &mut D,
@@ -123,11 +129,13 @@ fn run<R: Wait, S: Source, W: Sink, D: Dialer, C: Clock, G: Gate>(
     ensures own { IsOwn desk.now seat.new }
     ensures free { HoldsNoTurn seat.new }
     ensures same { IsSameSeat seat.old seat.new }
-    ensures ran { running.Ran desks.at_desk (salts_of desk.now) (config_of desk.now) (front desk.now seat.old) (running.outside_at (S.left source.old) (W.held sink.old) (desks.trace_at (C.readings clock.old) seat.old) (S.faults source.old) (W.faults sink.old) (record { operations = D.operations dialer.old; faults = D.faults dialer.old; behind = D.behind dialer.old })) result (front desk.now seat.new) (running.outside_at (S.left source.new) (W.held sink.new) (desks.trace_at (C.readings clock.new) seat.new) (S.faults source.new) (W.faults sink.new) (record { operations = D.operations dialer.new; faults = D.faults dialer.new; behind = D.behind dialer.new })) }
+    ensures ran { running.Ran desks.at_desk salts.now config.now (front desk.now seat.old) (running.outside_at (S.left source.old) (W.held sink.old) (desks.trace_at (C.readings clock.old) seat.old) (S.faults source.old) (W.faults sink.old) (record { operations = D.operations dialer.old; faults = D.faults dialer.old; behind = D.behind dialer.old })) result (front desk.now seat.new) (running.outside_at (S.left source.new) (W.held sink.new) (desks.trace_at (C.readings clock.new) seat.new) (S.faults source.new) (W.faults sink.new) (record { operations = D.operations dialer.new; faults = D.faults dialer.new; behind = D.behind dialer.new })) }
 {
     for round in 0..u64::MAX {
         forget_where_grown(rt, desk, seat);
-        match turn(rt, desk, seat, engine, source, sink, dialer, clock, gate) {
+        match turn(
+            rt, desk, seat, engine, config, salts, source, sink, dialer, clock, gate,
+        ) {
             Some(end) => return end,
             None => {}
         }
@@ -182,12 +190,16 @@ pub fn session<R: Wait, S: Source, W: Sink, D: Dialer, C: Clock, G: Gate>(
     // The journal handed back is one that the journal handed in became.
     ensures reaches { Reaches (front desk.now seat) (front desk.now result.0) }
 {
+    let config = desk.config();
+    let salts = desk.salts();
     let mut engine = Engine::new(alloc);
     let end = run(
         rt,
         desk,
         &mut seat,
         &mut engine,
+        config,
+        salts,
         source,
         sink,
         dialer,

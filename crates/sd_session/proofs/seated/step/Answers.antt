@@ -16,9 +16,9 @@ returns-in-Err-clause-refused g c = record {
   now = c.now-now.result;
   read = c.now-now.ensures;
   entries = c.in-Err.ensures.mine;
-  why = subst (λ (end : SessionEnd). RefusedAs _ c.args.event end) (sym c.end_of.ensures) (refused_by _ _ c.args.event c.in-Err.refused.fault c.in-Err.ensures.full);
+  why = subst (λ (end : SessionEnd). RefusedAs (front c.args.desk.now c.step_with_room.new.seat) c.args.event end) (sym c.end_of.ensures) (refused_by (front c.args.desk.now c.args.seat.now) (front c.args.desk.now c.step_with_room.new.seat) c.args.event c.in-Err.refused.fault c.in-Err.ensures.full);
 }
 
 pub returns-in-Err-clause-full : goal.returns-in-Err-clause-full
 returns-in-Err-clause-full g c =
-    subst (λ (end : SessionEnd). (n : ℕ) → end ≡ ends.JournalFull n → FullAfterForget _ _ c.args.event n) (sym c.end_of.ensures) (full_by _ _ c.args.event c.in-Err.refused.fault c.in-Err.ensures.full)
+    subst (λ (end : SessionEnd). (n : ℕ) → end ≡ ends.JournalFull n → FullAfterForget (front c.args.desk.now c.args.seat.now) (front c.args.desk.now c.step_with_room.new.seat) c.args.event n) (sym c.end_of.ensures) (full_by (front c.args.desk.now c.args.seat.now) (front c.args.desk.now c.step_with_room.new.seat) c.args.event c.in-Err.refused.fault c.in-Err.ensures.full)

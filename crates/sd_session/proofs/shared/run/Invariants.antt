@@ -1,4 +1,4 @@
-use Rattle.sd_desk.specs.Desks.{front, config_of, salts_of, IsOwn, HoldsNoTurn, IsSameSeat}
+use Rattle.sd_desk.specs.Desks.{front, IsOwn, HoldsNoTurn, IsSameSeat}
 use Rattle.sd_session.specs.Desks.{at_desk, trace_at}
 use Rattle.sd_session.specs.Running.{Stands, outside_at}
 use Rattle.sd_session.proofs.shared.run.Given as goal
@@ -10,7 +10,7 @@ invariant-loop-round g l = record {
   free : HoldsNoTurn l.seat;
   same : IsSameSeat l.fn.seat l.seat;
   stands :
-      Stands at_desk (salts_of l.desk) (config_of l.desk) (front l.desk l.fn.seat)
+      Stands at_desk l.salts l.config (front l.desk l.fn.seat)
       (outside_at (g.S.Source.left l.fn.source) (g.W.Sink.held l.fn.sink) (trace_at (g.C.Clock.readings l.fn.clock) l.fn.seat) (g.S.Source.faults l.fn.source) (g.W.Sink.faults l.fn.sink)
       (record { operations = g.D.Dialer.operations l.fn.dialer; faults = g.D.Dialer.faults l.fn.dialer; behind = g.D.Dialer.behind l.fn.dialer }))
       l.engine (front l.desk l.seat)

@@ -1,12 +1,24 @@
 use Rattle.sd_desk.specs.Desks.{front}
 use Rattle.sd_session.specs.Desks.{trace_at}
-use Rattle.sd_session.proofs.Sharing.{session_reaches}
+use Rattle.sd_session.proofs.Sharing.{session_as, session_reaches}
 use Rattle.sd_session.proofs.shared.session.Goals as goal
 
 pub returns-clause-session : goal.returns-clause-session
-returns-clause-session g c = record {
-  between = front c.args.desk.now c.run-end.new.seat;
-  trace = trace_at (g.C.Clock.readings c.run-end.new.clock) c.run-end.new.seat;
-  ran = c.run-end.ensures.ran;
-  withdraws = c.give_up.ensures.withdraws;
-}
+returns-clause-session g c =
+    session_as _ _ _ _ _ _ _ _ _ c.salts-salts.ensures c.config-config.ensures.config
+    (record {
+      between = front c.args.desk.now c.run-end.new.seat;
+      trace = trace_at (g.C.Clock.readings c.run-end.new.clock) c.run-end.new.seat;
+      ran = c.run-end.ensures.ran;
+      withdraws = c.give_up.ensures.withdraws;
+    })
+
+pub returns-clause-reaches : goal.returns-clause-reaches
+returns-clause-reaches g c =
+    session_reaches _ _ _ _ c.run-end.result _ _
+    (record {
+      between = front c.args.desk.now c.run-end.new.seat;
+      trace = trace_at (g.C.Clock.readings c.run-end.new.clock) c.run-end.new.seat;
+      ran = c.run-end.ensures.ran;
+      withdraws = c.give_up.ensures.withdraws;
+    })

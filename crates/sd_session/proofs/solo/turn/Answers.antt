@@ -61,7 +61,7 @@ returns-in-Step-clause-turned g c =
           c.args.source.now c.turn.new.source c.args.sink.now c.turn.new.sink c.args.dialer.now c.turn.new.dialer (trace_of (g.C.Clock.readings c.args.clock.now) c.args.core.now)
           c.in-Step.ensures.mute c.in-Step.ensures.deaf c.in-Step.ensures.reads_later c.in-Step.ensures.writes_later;
     }) in
-    turned_on alone c.args.salts.now c.args.config.now c.carry_out.result _ _ _ _ _ _ _ _ named.goes_on (c.carry_out.ensures.turned c.args.salts.now c.args.config.now p)
+    turned_on alone c.args.salts.now c.args.config.now c.carry_out.result _ _ _ _ _ _ _ _ _ named.goes_on (c.carry_out.ensures.turned c.args.salts.now c.args.config.now p)
 
 pub collect-requires : goal.collect-requires
 collect-requires g c =
@@ -93,4 +93,4 @@ returns-in-Collect-clause-turned g c =
           c.args.source.now c.turn.new.source c.args.sink.now c.turn.new.sink c.args.dialer.now c.turn.new.dialer (trace_of (g.C.Clock.readings c.args.clock.now) c.args.core.now)
           c.in-Collect.ensures.mute c.in-Collect.ensures.deaf c.in-Collect.ensures.reads_later c.in-Collect.ensures.writes_later;
     }) in
-    turned_on alone c.args.salts.now c.args.config.now c.collect.result _ _ _ _ _ _ _ _ named.goes_on (c.collect.ensures.turned c.args.salts.now c.args.config.now p)
+    turned_on alone c.args.salts.now c.args.config.now c.collect.result _ _ _ _ _ _ _ _ _ named.goes_on (c.collect.ensures.turned c.args.salts.now c.args.config.now p)

@@ -13,7 +13,7 @@ returns-in-Ok-clause-made g c = record {
   made = c.in-Ok.ensures.made;
   gives = c.in-Ok.ensures.given;
   fits = c.in-Ok.ensures.laws.of_kind;
-  kept = c.next_number.ensures.lawful;
+  kept = c.next_number.ensures.kept;
   room = c.in-Ok.ensures.room;
   entries = journal_more c.args.core.now _ c.now-now.result c.args.event c.in-Ok.ensures.made;
 }
@@ -25,6 +25,6 @@ returns-in-Err-clause-refused g c = record {
   read = c.now-now.ensures;
   entries = journal_same c.args.core.now _ c.in-Err.ensures.unchanged;
   why =
-      subst (λ (end : SessionEnd). RefusedAs _ c.args.event end) (sym c.end_of.ensures)
-      (refused_as _ c.args.event c.in-Err.refused.fault (λ n is. full_here c.args.core.now _ c.args.event n c.in-Err.ensures.unchanged (c.in-Err.ensures.full_only n is)));
+      subst (λ (end : SessionEnd). RefusedAs c.step.new.self c.args.event end) (sym c.end_of.ensures)
+      (refused_as c.step.new.self c.args.event c.in-Err.refused.fault (λ n is. full_here c.args.core.now c.step.new.self c.args.event n c.in-Err.ensures.unchanged (c.in-Err.ensures.full_only n is)));
 }

@@ -1,0 +1,11 @@
+use Rattle.sd_session.proofs.GivingUp.{withdraws_both}
+use Rattle.sd_session.proofs.Sharing.{same_through}
+use Rattle.sd_session.proofs.leaving.abandon_all.Goals as goal
+
+pub loop-number-preserved : goal.loop-number-preserved
+loop-number-preserved g c = record {
+  own = c.try_step.ensures.own;
+  free = c.try_step.ensures.free;
+  same = same_through c.args.seat.now c.loop-number.seat c.try_step.new.seat c.loop-number.invariant.same c.try_step.ensures.same;
+  withdraws = withdraws_both _ _ _ _ _ _ _ c.loop-number.invariant.withdraws c.try_step.ensures.withdraws;
+}
