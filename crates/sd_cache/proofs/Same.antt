@@ -1,0 +1,33 @@
+-- What `==` says of two keys is what the definitions say.
+use Rattle.std.proofs.Common.{◌≡◌, ℕ, Bool, true, false, cond, ◌==◌, ◌&&◌, ◌||◌, List, [], ◌∷◌, Option, None, Some, refl, sym, ◌∙◌, ap}
+use Rattle.std.specs.Map.{lookup}
+use Rattle.sd_rules.specs.declared.keys.Key.{Key}
+use Rattle.sd_rules.specs.declared.keys.Key.TheVariants.{User, Uid, Group, Gid, GroupsOf, Host, Rules}
+use Rattle.sd_rules.specs.contracts.keys.KeyPartialEq.TheImpl as key_equality
+use Rattle.sd_rules.specs.Keys.{same_key}
+use Rattle.sd_cache.specs.declared.kept.Newest.{Newest}
+use Rattle.sd_cache.specs.Cache.{newest_in}
+
+abbrev pub keys_equal : Key → Key → Bool
+keys_equal = (key_equality.ghosts).eq
+
+and_true : (b : Bool) → b ≡ (b && true)
+and_true true = refl
+and_true false = refl
+
+pub keys_equal_is : (a b : Key) → keys_equal a b ≡ same_key a b
+keys_equal_is (User a) (User b) = refl
+keys_equal_is (Uid a) (Uid b) = and_true (a == b)
+keys_equal_is (Group a) (Group b) = refl
+keys_equal_is (Gid a) (Gid b) = and_true (a == b)
+keys_equal_is (GroupsOf a) (GroupsOf b) = refl
+keys_equal_is Host Host = refl
+keys_equal_is Rules Rules = refl
+keys_equal_is _ _ = refl
+
+-- so a look-up by the one is a look-up by the other
+pub look_up_is : (answers : List (Key × Newest)) (k : Key) → lookup (keys_equal k) answers ≡ newest_in answers k
+look_up_is [] k = refl
+look_up_is (a ∷ answers) k =
+    ap (λ (b : Bool). cond b (Some a.1) (lookup (keys_equal k) answers)) (keys_equal_is k a.0)
+    ∙ ap (λ (o : Option Newest). cond (same_key k a.0) (Some a.1) o) (look_up_is answers k)

@@ -1,0 +1,22 @@
+-- The newest answers by keys.
+use Rattle.std.specs.Prelude.{◌≡◌, List, Option, Some, if◌then◌else◌}
+use Rattle.std.specs.Map.{lookup}
+use Rattle.std.specs.Option.{option_map}
+use Rattle.sd_rules.specs.declared.keys.Key.{Key}
+use Rattle.sd_rules.specs.declared.replies.Entry.{Entry}
+use Rattle.sd_rules.specs.Keys.{same_key, speaks_of}
+use Rattle.sd_rules.specs.Past.{Standing, newest}
+use Rattle.sd_cache.specs.declared.kept.Newest.{Newest}
+use Rattle.sd_cache.specs.Kept.{kept_of}
+
+-- the answer that is kept for a key
+abbrev pub newest_in : List (Key × Newest) → Key → Option Newest
+newest_in answers k = lookup (same_key k) answers
+
+-- what is kept for a key once an answer is put: that one, where it speaks of the key
+abbrev pub after_put : Standing → Key → Option Newest → Option Newest
+after_put a k before = if speaks_of a.own a.answered k then Some (kept_of a) else before
+
+-- for each key the newest answer of a journal is kept
+pub record HoldsNewest (past : List Entry) (answers : List (Key × Newest)) : Type 0 where
+  pub each : (k : Key) → newest_in answers k ≡ option_map kept_of (newest past k)

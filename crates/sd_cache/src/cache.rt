@@ -1,0 +1,148 @@
+// The cache, which contracts see as the newest answers by the keys of which they speak.
+ghost use Rattle.std.specs.Prelude.{◌≡◌, [], ◌∷◌, OnOk, OnErr, List, Some};
+ghost use Rattle.std.specs.Option.{option_copied};
+ghost use Rattle.sd_rules.specs.declared.keys.Key.{Key};
+ghost use Rattle.sd_rules.specs.declared.replies.Entry.{Entry};
+ghost use Rattle.sd_rules.specs.Past.{answer_in};
+
+use crate::filing::{Answers, put_found, put_own};
+use crate::kept::{Newest, found_of};
+use crate::primed::Primed;
+use indexmap::IndexMap;
+use sd_base::{Copied, Memory};
+use sd_rules::{Answered, Key, Record};
+use std::alloc::Global;
+use std::marker::Model;
+
+/// The newest answers by keys; contracts see them as keys with their answers, of which only the look-ups count.
+#[derive(Drop)]
+pub struct Cache {
+    answers: Answers,
+}
+
+impl Model for Cache {
+    ghost use Rattle.std.specs.Prelude.{List};
+    ghost use Rattle.sd_rules.specs.declared.keys.Key.{Key};
+    ghost use Rattle.sd_cache.specs.declared.kept.Newest.{Newest};
+
+    ghost Value = { List (Key × Newest) };
+
+    ghost view = { λ c. c.answers.entries };
+}
+
+impl Cache {
+    ghost use Rattle.sd_cache.specs.Kept as kept;
+    ghost use Rattle.sd_cache.specs.Cache as cached;
+
+    /// A cache of no answers, whose keys are hashed so.
+    pub fn new(alloc: Global, hasher: Primed) -> Cache
+        ensures { result ≡ [] }
+    {
+        Cache {
+            answers: IndexMap::with_hasher(alloc, hasher),
+        }
+    }
+
+    /// The newest answer of a key.
+    pub fn newest(&self, key: &Key) -> Option<&Newest>
+        ensures { option_copied result ≡ cached.newest_in self.now key.now }
+    {
+        self.answers.get(key)
+    }
+
+    /// Keeps an answer under every key of which it speaks.
+    fn keep(
+        &mut self,
+        number: u64,
+        moment: u64,
+        key: &Key,
+        answered: &Answered,
+        marked: bool,
+    ) -> Result<(), Memory>
+        ensures ok { OnOk result ((k : Key) → cached.newest_in self.new k ≡ cached.after_put (kept.standing number moment key.now answered.now marked) k (cached.newest_in self.old k)) }
+        ensures err { OnErr result (self.new ≡ self.old) }
+    {
+        let newest = Newest {
+            number,
+            moment,
+            own: key.copy()?,
+            found: found_of(answered)?,
+            marked,
+        };
+        match answered {
+            Answered::Found(Record::User(user)) => {
+                let name = Key::User(user.name.copy()?);
+                put_found(&mut self.answers, newest, name, Key::Uid(user.uid))
+            }
+            Answered::Found(Record::Group(group)) => {
+                let name = Key::Group(group.name.copy()?);
+                put_found(&mut self.answers, newest, name, Key::Gid(group.gid))
+            }
+            _ => put_own(&mut self.answers, newest),
+        }
+    }
+
+    /// Keeps what was answered to a key, with the number and the moment of its entry, under every key of which it speaks; `marked`
+    /// says that a kept row marks it as invalidated.
+    pub fn put(
+        &mut self,
+        number: u64,
+        moment: u64,
+        key: &Key,
+        answered: &Answered,
+        marked: bool,
+    ) -> Result<(), Memory>
+        ensures ok { OnOk result ((k : Key) → cached.newest_in self.new k ≡ cached.after_put (kept.standing number moment key.now answered.now marked) k (cached.newest_in self.old k)) }
+        ensures err { OnErr result (self.new ≡ self.old) }
+
+        // The cache stays what a journal says, where the journal's next entry holds this answer.
+        ensures journal { OnOk result ((past : List Entry) (e : Entry) → answer_in past e ≡ Some (kept.standing number moment key.now answered.now marked) → cached.HoldsNewest past self.old → cached.HoldsNewest (e ∷ past) self.new) }
+    {
+        self.keep(number, moment, key, answered, marked)
+    }
+}
+
+#[cfg(test)]
+mod tests {
+    use super::*;
+    use sd_base::Text;
+    use sd_rules::User;
+    use std::test::Fail;
+
+    fn text(alloc: Global, bytes: &[u8]) -> Result<Text, Memory> {
+        Text::from_bytes(alloc, bytes)
+    }
+
+    fn alice(alloc: Global) -> Result<Answered, Memory> {
+        Ok(Answered::Found(Record::User(User {
+            dn: text(alloc, b"uid=alice,dc=example")?,
+            name: text(alloc, b"alice")?,
+            uid: 1000,
+            gid: 100,
+            gecos: text(alloc, b"")?,
+            home: text(alloc, b"/home/alice")?,
+            shell: text(alloc, b"/bin/sh")?,
+        })))
+    }
+
+    // A user who was asked by number is found by name, until the name is answered by itself.
+    #[test]
+    fn speaks_of_names(rt: HostRuntime) -> Result<(), Fail> {
+        let name = Key::User(text(rt.alloc(), b"alice")?);
+        let mut cache = Cache::new(rt.alloc(), Primed::new(b"secret"));
+        assert!(rt; cache.newest(&name).is_none());
+        cache.put(3, 0, &Key::Uid(1000), &alice(rt.alloc())?, false)?;
+        assert_eq!(rt;
+            cache.newest(&name).map(|a| (a.number, a.moment)),
+            Some((3, 0))
+        );
+        cache.put(5, 1, &name, &Answered::Absent, false)?;
+        assert_eq!(rt;
+            cache.newest(&name).map(|a| (a.number, a.moment)),
+            Some((5, 1))
+        );
+        let by_number = cache.newest(&Key::Uid(1000));
+        assert_eq!(rt; by_number.map(|a| (a.number, a.moment)), Some((3, 0)));
+        Ok(())
+    }
+}

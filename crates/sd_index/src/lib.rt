@@ -1,0 +1,16 @@
+// What a journal says, kept beside its list, so that a question is answered without a walk over the entries.
+#![tactic(auto)]
+
+pub mod answers;
+pub mod asked;
+pub mod entries;
+pub mod index;
+pub mod outages;
+pub mod places;
+pub mod texts;
+pub mod voids;
+
+pub use index::Index;
+
+#[cfg(test)]
+mod tests;

@@ -1,0 +1,130 @@
+// The last invalidations, by what they cover: an answer is voided where its number is below a bound.
+ghost use Rattle.std.specs.Prelude.{◌≡◌, ◌∷◌, ℕ, List, true, max, OnOk, OnErr, if◌then◌else◌};
+ghost use Rattle.sd_rules.specs.declared.replies.Entry.{Entry};
+ghost use Rattle.sd_rules.specs.Keys.{same_name};
+ghost use Rattle.sd_index.specs.Entries.{numbers_fall};
+ghost use Rattle.sd_index.specs.Voids as voids;
+
+use indexmap::IndexMap;
+use sd_base::{Copied, Memory, Text};
+use sd_cache::{Found, Primed};
+use sd_rules::{Event, Key, What};
+use std::alloc::Global;
+use std::marker::Model;
+
+/// The last invalidation of each name, by its number.
+pub type Names = IndexMap<Text, u64, Primed>;
+
+/// The number below which the answers about a name are voided; 0 where no invalidation names it.
+fn bound_at(names: &Names, name: &Text) -> u64
+    ensures { result ≡ voids.bound_at names.now.entries name.now }
+{
+    match names.get(name) {
+        Some(number) => *number,
+        None => 0,
+    }
+}
+
+/// Notes the last invalidation of a name.
+fn set_bound(names: &mut Names, name: &Text, number: u64) -> Result<(), Memory>
+    ensures ok { OnOk result ((n : List ℕ) → voids.bound_at names.new.entries n ≡ (if same_name name.now n then number else voids.bound_at names.old.entries n)) }
+    ensures err { OnErr result (names.new.entries ≡ names.old.entries) }
+{
+    let name = name.copy()?;
+    names.insert(name, number)?;
+    Ok(())
+}
+
+/// The last invalidation of each kind, by its number, which contracts see as these numbers.
+#[derive(Drop)]
+pub struct Voids {
+    all: u64,
+    users: u64,
+    groups: u64,
+    user_names: Names,
+    group_names: Names,
+}
+
+impl Model for Voids {
+    ghost use Rattle.sd_index.specs.Bounds.{Bounds};
+
+    ghost Value = { Bounds };
+
+    ghost view = { λ v. record { all = v.all; users = v.users; groups = v.groups; user_names = v.user_names.entries; group_names = v.group_names.entries } };
+}
+
+impl Voids {
+    /// No invalidation was made; names are hashed so.
+    pub fn new(alloc: Global, hasher: Primed) -> Voids
+        ensures { result ≡ voids.no_bounds }
+    {
+        Voids {
+            all: 0,
+            users: 0,
+            groups: 0,
+            user_names: IndexMap::with_hasher(alloc, hasher),
+            group_names: IndexMap::with_hasher(alloc, hasher),
+        }
+    }
+
+    fn by_key(&self, own: &Key) -> u64
+        ensures { result ≡ voids.by_key self.now own.now }
+    {
+        match own {
+            Key::User(name) | Key::GroupsOf(name) => bound_at(&self.user_names, name),
+            Key::Group(name) => bound_at(&self.group_names, name),
+            _ => 0,
+        }
+    }
+
+    fn by_kind(&self, own: &Key) -> u64
+        ensures { result ≡ voids.by_kind self.now own.now }
+    {
+        match own {
+            Key::User(_) | Key::Uid(_) | Key::GroupsOf(_) => self.users,
+            Key::Group(_) | Key::Gid(_) => self.groups,
+            Key::Host | Key::Rules => 0,
+        }
+    }
+
+    fn by_found(&self, found: &Found) -> u64
+        ensures { result ≡ voids.by_found self.now found.now }
+    {
+        match found {
+            Found::User(name) => bound_at(&self.user_names, name),
+            Found::Group(name) => bound_at(&self.group_names, name),
+            Found::Absent | Found::Other => 0,
+        }
+    }
+
+    /// The number below which an answer to a key that found this is voided.
+    pub fn bound(&self, own: &Key, found: &Found) -> u64
+        ensures { result ≡ voids.bound_of self.now own.now found.now }
+    {
+        let by_name = self.by_key(own).max(self.by_found(found));
+        self.all.max(self.by_kind(own).max(by_name))
+    }
+
+    /// Sets the bound of what an invalidation covers.
+    fn set(&mut self, what: &What, number: u64) -> Result<(), Memory>
+        ensures ok { OnOk result (voids.Sets what.now number self.old self.new) }
+        ensures err { OnErr result (self.new ≡ self.old) }
+    {
+        match what {
+            What::All => self.all = number,
+            What::Users => self.users = number,
+            What::Groups => self.groups = number,
+            What::User(name) => set_bound(&mut self.user_names, name, number)?,
+            What::Group(name) => set_bound(&mut self.group_names, name, number)?,
+        }
+        Ok(())
+    }
+
+    /// Notes an invalidation by the number of its entry, which is greater than those before it.
+    pub fn note(&mut self, what: &What, number: u64) -> Result<(), Memory>
+        ensures ok { OnOk result ((past : List Entry) (e : Entry) → e.event ≡ Event.Void what.now → e.number ≡ number → numbers_fall number past ≡ true → voids.HoldsVoids past self.old → voids.HoldsVoids (e ∷ past) self.new) }
+        ensures err { OnErr result (self.new ≡ self.old) }
+    {
+        self.set(what, number)
+    }
+}
