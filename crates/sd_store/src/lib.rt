@@ -1,0 +1,8 @@
+//! A keeper over a SQLite file.
+#![tactic(auto)]
+
+mod file;
+mod keeper;
+mod table;
+
+pub use keeper::SqliteKeeper;
