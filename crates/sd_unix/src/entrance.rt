@@ -77,15 +77,16 @@ fn out_of_memory(_error: Memory) -> io::Error {
     io::Error::from(ErrorKind::OutOfMemory)
 }
 
-/// What a caller sends and is sent, until `ending` is set.
+/// What a caller sends and is sent, until `ending` is set; `out` is the caller's stream too.
 fn connection(
     caller: Caller,
+    out: UnixStream,
     ending: Arc<AtomicBool, Global>,
 ) -> io::Result<(ClientSource, ClientSink)>
     ensures { IfOk result (λ made. (⟦<ClientSource as Source>⟧.faults made.0 ≡ 0) × (⟦<ClientSink as Sink>⟧.faults made.1 ≡ 0)) }
 {
     let Caller { stream, visitor } = caller;
-    let sink = ClientSink::new(stream.try_clone()?)?;
+    let sink = ClientSink::new(out)?;
     Ok((ClientSource::new(stream, visitor, ending)?, sink))
 }
 
@@ -153,7 +154,7 @@ impl<'r, R: Files + Net + Clock + Alloc<A = Global>> Entrance<'r, R> {
         });
     }
 
-    /// Makes room for a connection that could not be accepted: whoever has been silent for longest is sent away.
+    /// Makes room where the system lacks a descriptor: whoever has been silent for longest is sent away.
     fn make_room(&mut self) {
         drop(self.lobby.take_first());
         thread::sleep(self.rt, Duration::from_millis(PAUSE));
@@ -212,6 +213,17 @@ impl<'r, R: Files + Net + Clock + Alloc<A = Global>> Entrance<'r, R> {
         }
     }
 
+    /// The stream once more, to write to.
+    fn copy_of(&mut self, stream: &UnixStream) -> io::Result<UnixStream> {
+        match stream.try_clone() {
+            Ok(copy) => Ok(copy),
+            Err(_) => {
+                self.make_room();
+                stream.try_clone()
+            }
+        }
+    }
+
     /// The first client of the lobby that sent something.
     fn take_client(&mut self) -> Option<(ClientSource, ClientSink)>
         ensures { IfSome result (λ made. (⟦<ClientSource as Source>⟧.faults made.0 ≡ 0) × (⟦<ClientSink as Sink>⟧.faults made.1 ≡ 0)) }
@@ -223,8 +235,9 @@ impl<'r, R: Files + Net + Clock + Alloc<A = Global>> Entrance<'r, R> {
             has_sent: _,
         } = self.lobby.take_sent()?;
         forget(&self.poll, caller.stream.as_raw_fd()).ok()?;
+        let out = self.copy_of(&caller.stream).ok()?;
         let ending = Arc::try_clone(&self.ending).ok()?;
-        connection(caller, ending).ok()
+        connection(caller, out, ending).ok()
     }
 
     /// The next client.
