@@ -28,4 +28,12 @@ pub trait Doors {
         ensures ended { ended self.new ≡ ended_after (ended self.old) result }
         ensures no_fault { IfOk result (λ came. IfSome came (λ c. (Self.In.faults c.0 ≡ 0) × (Self.Out.faults c.1 ≡ 0))) }
         ensures cause { HasCause (faults self.old) (faults self.new) result };
+
+    /// No more clients are let in: the connections that were given may end as soon as their clients are idle.
+    fn wind_down(&mut self)
+        ensures gave { gave self.new ≡ gave self.old }
+        ensures ended { ended self.new ≡ ended self.old }
+        ensures faults { faults self.new ≡ faults self.old }
+    {
+    }
 }

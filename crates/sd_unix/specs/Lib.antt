@@ -1,2 +1,2 @@
+pub mod Lobbies
 pub mod Places
-pub mod Telling

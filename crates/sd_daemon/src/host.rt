@@ -1,0 +1,71 @@
+//! What the daemon asks of the host that it serves.
+ghost use Rattle.std.specs.Prelude.{◌≡◌, ◌≤◌, ◌<◌, ℕ, List, Bool, IfOk, OnErr, OnOk};
+ghost use Rattle.std.specs.declared.option.Option.{Option};
+ghost use Rattle.sd_base.specs.Causes.{Rose};
+ghost use Rattle.sd_daemon.specs.Counting.{Counts, Tells};
+
+use crate::notices::Notice;
+use sd_base::{Source, SourceFailed};
+use sd_doors::{DoorFailed, Doors};
+use sd_server::Equipment;
+
+/// Where the daemon's configuration, its seed and its clients come from. It counts the faults of each kind.
+pub trait Host {
+    type File: Source + Drop;
+
+    type Door: Doors + Drop;
+
+    type Tools: Equipment + Drop;
+
+    /// The bytes of the file at a path, where they are told.
+    ghost text_at: { Self → List ℕ → Option (List ℕ) };
+    /// How many reads of files, and of the seed, have failed. A count at the greatest u64 stands still.
+    ghost source_faults: { Self → ℕ };
+    /// How many doors could not be made, or failed. A count at the greatest u64 stands still.
+    ghost door_faults: { Self → ℕ };
+    /// Whether doors that were handed back gave a connection.
+    ghost gave: { Self → Bool };
+    /// Whether doors that were handed back answered that none will come.
+    ghost ended: { Self → Bool };
+
+    /// The file at a path, at its beginning.
+    fn file(&mut self, path: &str) -> Result<Self::File, SourceFailed>
+        ensures text { IfOk result (λ file. Self.File.left file ≡ text_at self.old path.now) }
+        ensures unfailed { IfOk result (λ file. Self.File.faults file ≡ 0) }
+        ensures failed { OnErr result (Rose (source_faults self.old) (source_faults self.new)) }
+        ensures later { source_faults self.old ≤ source_faults self.new }
+        ensures doors { door_faults self.new ≡ door_faults self.old };
+
+    /// Takes a file back; a fault is counted where one of its reads failed.
+    fn done_file(&mut self, file: Self::File)
+        ensures counted { Counts (source_faults self.old) (source_faults self.new) (Self.File.faults file) }
+        ensures doors { door_faults self.new ≡ door_faults self.old };
+
+    /// Bytes that nobody can guess: the seed of the salts of stored hashes.
+    fn seed(&mut self) -> Result<[u8; 32], SourceFailed>
+        ensures failed { OnErr result (Rose (source_faults self.old) (source_faults self.new)) }
+        ensures later { source_faults self.old ≤ source_faults self.new }
+        ensures doors { door_faults self.new ≡ door_faults self.old };
+
+    /// Doors on the socket at a path, through which nobody has come.
+    fn listen(&mut self, path: &str) -> Result<Self::Door, DoorFailed>
+        ensures unfailed { IfOk result (λ doors. Self.Door.faults doors ≡ 0) }
+        ensures failed { OnErr result (Rose (door_faults self.old) (door_faults self.new)) }
+        ensures later { door_faults self.old ≤ door_faults self.new };
+
+    /// What sessions are made with.
+    fn equipment(&mut self) -> Self::Tools
+        ensures doors { door_faults self.new ≡ door_faults self.old };
+
+    /// Takes doors back, and closes them.
+    fn done_doors(&mut self, doors: Self::Door)
+        ensures counted { Counts (door_faults self.old) (door_faults self.new) (Self.Door.faults doors) }
+        ensures tells { Tells (gave self.new) (ended self.new) (Self.Door.gave doors) (Self.Door.ended doors) };
+
+    /// Writes a line into the log, where the host has one. One that cannot be written is left out.
+    fn log(&mut self, _notice: Notice)
+        ensures sources { source_faults self.new ≡ source_faults self.old }
+        ensures doors { door_faults self.new ≡ door_faults self.old }
+        ensures told { (gave self.new ≡ gave self.old) × (ended self.new ≡ ended self.old) }
+    {}
+}

@@ -1,0 +1,268 @@
+//! The way in: two listening sockets, and the lobby behind them.
+ghost use Rattle.std.specs.Prelude.{◌≡◌, IfOk, IfSome};
+
+use crate::connection::{ClientSink, ClientSource, Visitor};
+use crate::lobby::{Guest, Lobby, MOST_GUESTS};
+use crate::socket::ListeningSocket;
+use mio::unix::SourceFd;
+use mio::{Events, Interest, Poll, Token};
+use sd_base::{Memory, Sink, Source};
+use std::alloc::{Alloc, Global};
+use std::fs::Files;
+use std::io::ErrorKind;
+use std::net::Net;
+use std::os::fd::AsRawFd;
+use std::os::unix::net::{UnixListener, UnixStream};
+use std::sync::Arc;
+use std::sync::atomic::{AtomicBool, Ordering};
+use std::time::{Clock, Duration, Instant};
+use std::{io, thread};
+
+/// The mode of the administrator's socket.
+const OWN_MODE: u32 = 0o600;
+/// The mode of the socket for every user of the host.
+const PUBLIC_MODE: u32 = 0o666;
+/// How long to wait before the next try where a connection could not be accepted, in milliseconds.
+const PAUSE: u64 = 100;
+/// How many events are taken at once.
+const MOST_EVENTS: usize = 64;
+
+const ADMINISTRATOR: usize = 0;
+
+const ANYONE: usize = 1;
+/// The number of the first guest.
+const FIRST_GUEST: usize = 2;
+
+/// Somebody who is connected.
+#[derive(Drop)]
+struct Caller {
+    stream: UnixStream,
+    visitor: Visitor,
+}
+
+/// What a try to accept came to.
+enum Accepted {
+    Came(UnixStream),
+    /// Nobody waits at the door.
+    Nobody,
+    /// Who waited is gone, or the system lacks a descriptor: the next try may do.
+    Failed,
+}
+
+/// Both sockets, and the clients that are connected and have sent nothing yet.
+#[derive(Drop)]
+pub struct Entrance<'r, R: Files + Net + Clock> {
+    rt: &'r R,
+    administrator: ListeningSocket,
+    public: ListeningSocket,
+    poll: Poll,
+    events: Events<Global>,
+    is_administrator_waiting: bool,
+    is_anyone_waiting: bool,
+    lobby: Lobby<Caller>,
+    next_guest: usize,
+    opened: Instant,
+    ending: Arc<AtomicBool, Global>,
+}
+
+fn accept_at(listener: &UnixListener) -> Accepted {
+    match listener.accept() {
+        Ok((stream, _)) => Accepted::Came(stream),
+        Err(error) if error.kind() == ErrorKind::WouldBlock => Accepted::Nobody,
+        Err(_) => Accepted::Failed,
+    }
+}
+
+fn out_of_memory(_error: Memory) -> io::Error {
+    io::Error::from(ErrorKind::OutOfMemory)
+}
+
+/// What a caller sends and is sent, until `ending` is set; `out` is the caller's stream too.
+fn connection(
+    caller: Caller,
+    out: UnixStream,
+    ending: Arc<AtomicBool, Global>,
+) -> io::Result<(ClientSource, ClientSink)>
+    ensures { IfOk result (λ made. (⟦<ClientSource as Source>⟧.faults made.0 ≡ 0) × (⟦<ClientSink as Sink>⟧.faults made.1 ≡ 0)) }
+{
+    let Caller { stream, visitor } = caller;
+    let sink = ClientSink::new(out)?;
+    Ok((ClientSource::new(stream, visitor, ending)?, sink))
+}
+
+fn watch(poll: &Poll, descriptor: i32, number: usize) -> io::Result<()> {
+    poll.registry().register(
+        &mut SourceFd(&descriptor),
+        Token(number),
+        Interest::READABLE,
+    )
+}
+
+fn forget(poll: &Poll, descriptor: i32) -> io::Result<()> {
+    poll.registry().deregister(&mut SourceFd(&descriptor))
+}
+
+/// The second, counted from a moment.
+fn second_since(clock: &impl Clock, moment: &Instant) -> u64 {
+    match moment.elapsed(clock) {
+        Ok(passed) => passed.as_secs(),
+        Err(_) => 0,
+    }
+}
+
+impl<'r, R: Files + Net + Clock + Alloc<A = Global>> Entrance<'r, R> {
+    /// Listens at a path, for the administrator, and at `PATH.public`.
+    pub fn open(rt: &'r R, path: &str) -> io::Result<Entrance<'r, R>> {
+        let alloc = rt.alloc();
+        let own = format!(in alloc; "{path}")?;
+        let shared = format!(in alloc; "{path}.public")?;
+        let lobby = Lobby::new(alloc).map_err(out_of_memory)?;
+        let ending = Arc::new(alloc, AtomicBool::new(false))?;
+        let events = Events::with_capacity(alloc, MOST_EVENTS)?;
+        let administrator = ListeningSocket::open(rt, own, OWN_MODE)?;
+        let public = ListeningSocket::open(rt, shared, PUBLIC_MODE)?;
+        let poll = Poll::new(rt)?;
+        watch(&poll, administrator.listener.as_raw_fd(), ADMINISTRATOR)?;
+        watch(&poll, public.listener.as_raw_fd(), ANYONE)?;
+        Ok(Entrance {
+            rt,
+            administrator,
+            public,
+            poll,
+            events,
+            is_administrator_waiting: true,
+            is_anyone_waiting: true,
+            lobby,
+            next_guest: FIRST_GUEST,
+            opened: Instant::now(rt)?,
+            ending,
+        })
+    }
+
+    /// Lets somebody into the lobby. Who cannot be watched there is sent away.
+    fn let_in(&mut self, stream: UnixStream, visitor: Visitor) {
+        let number = self.next_guest;
+        if watch(&self.poll, stream.as_raw_fd(), number).is_err() {
+            return;
+        }
+        self.next_guest = number.wrapping_add(1).max(FIRST_GUEST);
+        self.lobby.admit(Guest {
+            connection: Caller { stream, visitor },
+            number,
+            came: second_since(self.rt, &self.opened),
+            has_sent: false,
+        });
+    }
+
+    /// Makes room where the system lacks a descriptor: whoever has been silent for longest is sent away.
+    fn make_room(&mut self) {
+        drop(self.lobby.take_first());
+        thread::sleep(self.rt, Duration::from_millis(PAUSE));
+    }
+
+    /// Lets one caller in at each door.
+    fn answer_doors(&mut self) {
+        if self.is_administrator_waiting {
+            match accept_at(&self.administrator.listener) {
+                Accepted::Came(stream) => self.let_in(stream, Visitor::Administrator),
+                Accepted::Nobody => self.is_administrator_waiting = false,
+                Accepted::Failed => self.make_room(),
+            }
+        }
+        if self.is_anyone_waiting {
+            match accept_at(&self.public.listener) {
+                Accepted::Came(stream) => self.let_in(stream, Visitor::Anyone),
+                Accepted::Nobody => self.is_anyone_waiting = false,
+                Accepted::Failed => self.make_room(),
+            }
+        }
+    }
+
+    /// How long nothing is to be done but on an event.
+    fn rest(&self) -> Option<Duration> {
+        if self.is_administrator_waiting || self.is_anyone_waiting {
+            Some(Duration::ZERO)
+        } else if self.lobby.is_empty() {
+            None
+        } else {
+            Some(Duration::from_secs(1))
+        }
+    }
+
+    /// Waits until somebody comes or sends something, or somebody may have been silent for too long.
+    fn look(&mut self) -> io::Result<()> {
+        let rest = self.rest();
+        self.poll.poll(&mut self.events, rest)?;
+        for event in self.events.iter() {
+            match event.token() {
+                Token(ADMINISTRATOR) => self.is_administrator_waiting = true,
+                Token(ANYONE) => self.is_anyone_waiting = true,
+                Token(number) => self.lobby.note_sent(number),
+            }
+        }
+        Ok(())
+    }
+
+    /// Sends away whoever has been silent for too long.
+    fn send_silent_away(&mut self) {
+        let now = second_since(self.rt, &self.opened);
+        for _ in 0..MOST_GUESTS {
+            if self.lobby.take_silent(now).is_none() {
+                return;
+            }
+        }
+    }
+
+    /// The stream once more, to write to.
+    fn copy_of(&mut self, stream: &UnixStream) -> io::Result<UnixStream> {
+        match stream.try_clone() {
+            Ok(copy) => Ok(copy),
+            Err(_) => {
+                self.make_room();
+                stream.try_clone()
+            }
+        }
+    }
+
+    /// The first client of the lobby that sent something.
+    fn take_client(&mut self) -> Option<(ClientSource, ClientSink)>
+        ensures { IfSome result (λ made. (⟦<ClientSource as Source>⟧.faults made.0 ≡ 0) × (⟦<ClientSink as Sink>⟧.faults made.1 ≡ 0)) }
+    {
+        let Guest {
+            connection: caller,
+            number: _,
+            came: _,
+            has_sent: _,
+        } = self.lobby.take_sent()?;
+        forget(&self.poll, caller.stream.as_raw_fd()).ok()?;
+        let out = self.copy_of(&caller.stream).ok()?;
+        let ending = Arc::try_clone(&self.ending).ok()?;
+        connection(caller, out, ending).ok()
+    }
+
+    /// The next client.
+    pub fn next_client(&mut self) -> io::Result<(ClientSource, ClientSink)>
+        ensures { IfOk result (λ made. (⟦<ClientSource as Source>⟧.faults made.0 ≡ 0) × (⟦<ClientSink as Sink>⟧.faults made.1 ≡ 0)) }
+    {
+        for _ in 0..u64::MAX {
+            if let Some(made) = self.take_client() {
+                return Ok(made);
+            }
+            self.answer_doors();
+            self.look()?;
+            self.send_silent_away();
+        }
+        Err(io::Error::from(ErrorKind::Other))
+    }
+
+    /// From now on the connections that were given end once their clients are between two frames.
+    pub fn wind_down(&self) {
+        self.ending.store(true, Ordering::SeqCst);
+    }
+
+    /// Takes both sockets away.
+    pub fn close(self) {
+        self.administrator.remove(self.rt);
+        self.public.remove(self.rt);
+    }
+}
