@@ -1,9 +1,11 @@
-// The program: it hands its words, its input and its output to the command that the first word names, and ends with its status.
+// The program: it makes the real objects, hands them to `program` with the words behind its name, and ends with its status.
 #![tactic(auto)]
 
+mod outside;
+
+use outside::SystemOutside;
 use sd_base::{ReaderSource, WriterSink};
-use sd_idmap::idmap;
-use sd_scenario::{NO_MEMORY, Status, scenario};
+use sd_serve::{NO_MEMORY, Status, program};
 use std::process::ExitCode;
 use std::{env, io};
 
@@ -14,31 +16,19 @@ fn words(rt: &HostRuntime) -> io::Result<Vec<String>> {
     Ok(args.collect(rt.alloc())?)
 }
 
-fn is_idmap(words: &[String]) -> bool {
-    match words {
-        [command, ..] => command.as_str() == "idmap",
-        [] => false,
-    }
-}
-
-/// Each command tests its words itself; words that begin with no command's are the scenario's to refuse.
-fn command(rt: &HostRuntime, words: &[String]) -> Status {
-    let alloc = rt.alloc();
+fn run_words(rt: &HostRuntime, words: &[String]) -> Status {
     let mut source = ReaderSource::new(rt.stdin());
     let mut sink = WriterSink::new(rt.stdout());
-    if is_idmap(words) {
-        idmap(alloc, words, &mut source, &mut sink)
-    } else {
-        scenario(alloc, words, &mut source, &mut sink)
-    }
+    let mut outside = SystemOutside::new(rt);
+    program(rt.alloc(), words, &mut source, &mut sink, &mut outside)
 }
 
 fn run(rt: &HostRuntime) -> Status {
     match words(rt) {
-        Ok(words) => command(rt, words.as_slice()),
+        Ok(words) => run_words(rt, words.as_slice()),
         Err(error) if error.kind() == io::ErrorKind::OutOfMemory => NO_MEMORY,
         // A word is not UTF-8, so the words have no form.
-        Err(_) => command(rt, &[]),
+        Err(_) => run_words(rt, &[]),
     }
 }
 

@@ -1,0 +1,5 @@
+pub mod Links
+pub mod Told
+pub mod Asked
+pub mod Voided
+pub mod Played

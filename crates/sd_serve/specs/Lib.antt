@@ -1,0 +1,3 @@
+pub mod Outsides
+pub mod Words
+pub mod Promises

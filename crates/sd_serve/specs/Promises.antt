@@ -1,0 +1,113 @@
+-- What each word of the program promises, by what its input, its output and its links tell before and after.
+use Rattle.std.specs.Prelude.{◌≡◌, ◌≢◌, ◌⊎◌, ◌≤◌, ◌<◌, ℕ, List, [], ◌∷◌, length, true, false, IfSome, Some, None}
+use Rattle.std.specs.declared.option.Option.{Option}
+use Rattle.std.specs.Io.KnownBytes.{Appends}
+use Rattle.sd_base.specs.Causes.{Rose}
+use Rattle.sd_base.specs.Written.{AppendsFront}
+use Rattle.sd_idmap.specs.Endings as ids
+use Rattle.sd_idmap.specs.Lines as id_lines
+use Rattle.sd_idmap.specs.Transcript as id_script
+use Rattle.sd_layout.specs.Faults as lines
+use Rattle.sd_scenario.specs.Endings as ends
+use Rattle.sd_scenario.specs.Transcript as script
+use Rattle.sd_scenario.specs.declared.endings.TheConstants.{LIMIT, BAD_LINE, JOURNAL_FULL}
+use Rattle.sd_tools.specs.Endings as endings
+use Rattle.sd_tools.specs.Options.{requests_of}
+use Rattle.sd_tools.specs.Queries.{query_of, needs_password, first_line}
+use Rattle.sd_tools.specs.Replies as replies
+use Rattle.sd_tools.specs.declared.endings.TheConstants.{DONE, READ_FAULT, WRITE_FAULT, NO_MEMORY, TOO_LONG, NO_DAEMON, BAD_REPLY}
+use Rattle.sd_wire.specs.Frames.{is_sound}
+use Rattle.sd_wire.specs.declared.requests.TheConstants.{LONGEST_PASSWORD}
+
+-- a text is printed, and nothing is read
+pub record Prints {S W : Type 0} (held : W → Option (List ℕ)) (text : List ℕ) (source source' : S) (sink sink' : W) (status : ℕ) : Type 0 where
+  pub status_is : (status ≡ DONE) ⊎ (status ≡ WRITE_FAULT)
+  pub printed : status ≡ DONE → Appends (held sink) (held sink') text
+  pub front : status ≡ WRITE_FAULT → AppendsFront (held sink) (held sink') text
+  pub unread : source' ≡ source
+
+-- `scenario`: the lines of the input are played.
+pub record Plays {S W : Type 0} (left : S → Option (List ℕ)) (read_faults : S → ℕ) (held : W → Option (List ℕ)) (write_faults : W → ℕ)
+    (source source' : S) (sink sink' : W) (status : ℕ) : Type 0 where
+  pub status_is : ends.IsStatus status
+  -- the whole input was taken, it is at most 16 MiB, each line has a form, and the whole transcript was written
+  pub done : status ≡ DONE → IfSome (left source) (λ text. (left source' ≡ Some []) × (length text ≤ LIMIT) × (lines.first_bad text ≡ None)
+      × ((script.transcript text).is_full ≡ false) × Appends (held sink) (held sink') (script.transcript text).text)
+  -- line n is the first without a form, and `bad line n` alone was written
+  pub bad_line : status ≡ BAD_LINE → IfSome (left source) (λ text. (length text ≤ LIMIT)
+      × ((n : ℕ) × (lines.first_bad text ≡ Some n) × Appends (held sink) (held sink') (ends.bad_line n)))
+  -- a step of the transcript is refused as full; the transcript was written, whose last line is `journal full n`
+  pub journal_full : status ≡ JOURNAL_FULL → IfSome (left source) (λ text. (length text ≤ LIMIT) × (lines.first_bad text ≡ None)
+      × ((script.transcript text).is_full ≡ true) × Appends (held sink) (held sink') (script.transcript text).text)
+  -- the input passes 16 MiB, and `too long` was written
+  pub too_long : status ≡ TOO_LONG → IfSome (left source) (λ text. LIMIT < length text) × Appends (held sink) (held sink') ends.too_long
+  -- the sink failed, and a front of the output was written
+  pub front : status ≡ WRITE_FAULT → IfSome (left source) (λ text. AppendsFront (held sink) (held sink') (ends.ending_of text).output)
+  -- with no fault counted and memory enough, the text decides the status: each cause brings its own
+  pub exactly : IfSome (left source) (λ text. ¬ (Rose (read_faults source) (read_faults source')) → ¬ (Rose (write_faults sink) (write_faults sink'))
+      → status ≢ NO_MEMORY → status ≡ (ends.ending_of text).status)
+  -- lines that all have forms, within 16 MiB, with no fault counted, are done or end by a full journal
+  pub complete : IfSome (left source) (λ text. length text ≤ LIMIT → lines.first_bad text ≡ None
+      → ¬ (Rose (read_faults source) (read_faults source')) → ¬ (Rose (write_faults sink) (write_faults sink'))
+      → status ≢ NO_MEMORY → status ≡ ends.status_by_journal (script.transcript text).is_full)
+
+-- `idmap`: the lines of the input are answered.
+pub record Numbers {S W : Type 0} (left : S → Option (List ℕ)) (read_faults : S → ℕ) (held : W → Option (List ℕ)) (write_faults : W → ℕ)
+    (source source' : S) (sink sink' : W) (status : ℕ) : Type 0 where
+  pub status_is : ids.IsStatus status
+  -- the whole input was taken, it is at most 16 MiB, each line has a form, and the answers to all were written
+  pub done : status ≡ DONE → IfSome (left source) (λ text. (left source' ≡ Some []) × (length text ≤ LIMIT) × (id_lines.first_bad text ≡ None)
+      × Appends (held sink) (held sink') (id_script.transcript text))
+  -- line n is the first without a form, and `bad line n` alone was written
+  pub bad_line : status ≡ BAD_LINE → IfSome (left source) (λ text. (length text ≤ LIMIT)
+      × ((n : ℕ) × (id_lines.first_bad text ≡ Some n) × Appends (held sink) (held sink') (ids.bad_line n)))
+  -- the input passes 16 MiB, and `too long` was written
+  pub too_long : status ≡ TOO_LONG → IfSome (left source) (λ text. LIMIT < length text) × Appends (held sink) (held sink') ids.too_long
+  -- the sink failed, and a front of the output was written
+  pub front : status ≡ WRITE_FAULT → IfSome (left source) (λ text. AppendsFront (held sink) (held sink') (ids.ending_of text).output)
+  -- with no fault counted and memory enough, the text decides the status: each cause brings its own
+  pub exactly : IfSome (left source) (λ text. ¬ (Rose (read_faults source) (read_faults source')) → ¬ (Rose (write_faults sink) (write_faults sink'))
+      → status ≢ NO_MEMORY → status ≡ (ids.ending_of text).status)
+  -- lines that all have forms, within 16 MiB, with no fault counted, are done
+  pub complete : IfSome (left source) (λ text. length text ≤ LIMIT → id_lines.first_bad text ≡ None
+      → ¬ (Rose (read_faults source) (read_faults source')) → ¬ (Rose (write_faults sink) (write_faults sink'))
+      → status ≢ NO_MEMORY → status ≡ DONE)
+
+-- `query`, by the words behind its socket: the daemon is asked one thing, over links of which this is told.
+pub record Asks {S : Type 0} (left : S → Option (List ℕ)) (rest : List (List ℕ)) (source source' : S) (told told' : replies.Told)
+    (held held' : Option (List ℕ)) (status : ℕ) : Type 0 where
+  pub status_is : endings.IsAskStatus status
+  -- the frame of the words was sent, no other piece, and the text of the reply was printed
+  pub done : status ≡ DONE → endings.OfWords (query_of rest) (left source) (λ request. replies.IsDone (request ∷ []) told told' held held')
+  -- whatever the status, nothing but the frame of the words was sent
+  pub sent : endings.OfWords (query_of rest) (left source) (λ request. replies.IsFrontSent (request ∷ []) told told')
+  -- the input was read for the password of a login alone
+  pub unread : IfSome (query_of rest) (λ query. needs_password query ≡ false → source' ≡ source)
+  -- the source failed: nothing was sent
+  pub read_fault : status ≡ READ_FAULT → told' ≡ told
+  -- the first line of the input passes 1024 bytes: nothing was sent, and `too long` was written
+  pub too_long : status ≡ TOO_LONG → IfSome (query_of rest) (λ query. needs_password query ≡ true)
+      × IfSome (left source) (λ input. LONGEST_PASSWORD < length (first_line input)) × (told' ≡ told) × Appends held held' endings.too_long
+  -- no daemon answers: that was written
+  pub no_daemon : status ≡ NO_DAEMON → Appends held held' endings.no_daemon
+  -- what was received begins no reply, and `bad reply` was written
+  pub bad_reply : status ≡ BAD_REPLY
+      → endings.OfWords (query_of rest) (left source) (λ request. replies.FindsBadReply (request ∷ []) told told' held held')
+
+-- A password that was sent, or was to be sent over a link that was made, has at most 1024 bytes.
+abbrev pub IsWithin : List (List ℕ) → Option (List ℕ) → Type 0 → ℕ → Type 0
+IsWithin rest input IsLinked status = endings.IsTalkStatus status → (status ≡ NO_DAEMON → IsLinked)
+    → endings.OfWords (query_of rest) input (λ request. status ≢ WRITE_FAULT → status ≢ NO_MEMORY → is_sound request ≡ true)
+
+-- `cache`, by the words behind its socket: answers are asked anew.
+pub record Voids (rest : List (List ℕ)) (told told' : replies.Told) (held held' : Option (List ℕ)) (status : ℕ) : Type 0 where
+  pub status_is : endings.IsTalkStatus status
+  -- the frames of the options were sent, in the order E, u, U, g, G, no other piece, and the texts of the replies were printed
+  pub done : status ≡ DONE → endings.OfOptions (requests_of rest) (λ requests. replies.IsDone requests told told' held held')
+  -- whatever the status, some of these frames were sent, the first before the others, and nothing else
+  pub sent : endings.OfOptions (requests_of rest) (λ requests. replies.IsFrontSent requests told told')
+  -- no daemon answers any more: the replies before that were written, and then that
+  pub no_daemon : status ≡ NO_DAEMON → endings.OfOptions (requests_of rest) (λ requests. replies.FindsNoDaemon requests held held')
+  -- what was received behind the replies before begins no reply: those were written, and then `bad reply`
+  pub bad_reply : status ≡ BAD_REPLY
+      → endings.OfOptions (requests_of rest) (λ requests. replies.FindsBadReply requests told told' held held')

@@ -1,0 +1,58 @@
+-- Which words ask for what.
+use Rattle.std.specs.Prelude.{◌≡◌, ◌≢◌, ◌≤◌, ◌⊎◌, ℕ, Bool, false, codes, List, [], ◌∷◌, None, if◌then◌else◌}
+use Rattle.sd_rules.specs.Keys.{same_name}
+use Rattle.sd_tools.specs.Options.{requests_of}
+use Rattle.sd_tools.specs.Queries.{query_of}
+use Rattle.sd_serve.specs.declared.words.Kind.{Kind}
+use Rattle.sd_serve.specs.declared.words.Kind.TheVariants as kinds
+
+-- a word alone
+abbrev pub kind_of_word : List ℕ → Kind
+kind_of_word word =
+    if same_name word (codes "scenario") then kinds.Scenario
+    else if same_name word (codes "idmap") then kinds.Idmap
+    else if same_name word (codes "--help") then kinds.Help
+    else if same_name word (codes "--version") then kinds.Version
+    else kinds.Unknown
+
+-- a tool, with the path of a socket behind it
+abbrev pub kind_of_tool : List ℕ → Kind
+kind_of_tool tool =
+    if same_name tool (codes "query") then kinds.Query
+    else if same_name tool (codes "cache") then kinds.Cache
+    else kinds.Unknown
+
+abbrev pub kind_of : List (List ℕ) → Kind
+kind_of [] = kinds.Unknown
+kind_of (word ∷ []) = kind_of_word word
+kind_of (tool ∷ socket ∷ rest) = kind_of_tool tool
+
+-- the word behind a tool: the path of its socket
+abbrev pub operand_of : List (List ℕ) → List ℕ
+operand_of (tool ∷ socket ∷ rest) = socket
+operand_of _ = []
+
+-- the words behind that
+abbrev pub behind_operand : List (List ℕ) → List (List ℕ)
+behind_operand (tool ∷ socket ∷ rest) = rest
+behind_operand _ = []
+
+-- the words behind a tool have no form
+abbrev pub LacksForm : Kind → List (List ℕ) → Type 0
+LacksForm kinds.Query rest = query_of rest ≡ None
+LacksForm kinds.Cache rest = requests_of rest ≡ None
+LacksForm kinds.Unknown rest = Unit {0}
+LacksForm _ rest = ⊥
+
+-- the words of a program have no form
+abbrev pub HasNoForm : List (List ℕ) → Type 0
+HasNoForm words = LacksForm (kind_of words) (behind_operand words)
+
+-- the words of a query that ends the daemon
+abbrev pub is_stop : List (List ℕ) → Bool
+is_stop (word ∷ []) = same_name word (codes "stop")
+is_stop _ = false
+
+-- the statuses of the program: 0, 2 to 8, 13 and 14
+abbrev pub IsStatus : ℕ → Type 0
+IsStatus status = (status ≢ 1) × ((status ≤ 8) ⊎ ((status ≡ 13) ⊎ (status ≡ 14)))

@@ -1,0 +1,12 @@
+// The program: which words ask for what, and what stands outside of it.
+#![tactic(auto)]
+
+pub mod commands;
+pub mod outside;
+pub mod texts;
+pub mod tools;
+pub mod words;
+
+pub use commands::program;
+pub use outside::{Coming, MemoryOutside, Outside};
+pub use sd_tools::{NO_MEMORY, Status};

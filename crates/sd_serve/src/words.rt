@@ -1,0 +1,76 @@
+// Which words ask for what.
+ghost use Rattle.std.specs.Prelude.{◌≡◌, map, string_bytes};
+ghost use Rattle.sd_serve.specs.Words as forms;
+
+/// What words ask for.
+#[derive(Clone, Copy, Debug, PartialEq, Eq)]
+pub enum Kind {
+    Help,
+    Version,
+    Scenario,
+    Idmap,
+    Query,
+    Cache,
+    /// No word of the program.
+    Unknown,
+}
+
+fn kind_of_word(word: &[u8]) -> Kind
+    ensures { result ≡ forms.kind_of_word word.now }
+{
+    if word == b"scenario".as_slice() {
+        Kind::Scenario
+    } else if word == b"idmap".as_slice() {
+        Kind::Idmap
+    } else if word == b"--help".as_slice() {
+        Kind::Help
+    } else if word == b"--version".as_slice() {
+        Kind::Version
+    } else {
+        Kind::Unknown
+    }
+}
+
+fn kind_of_tool(tool: &[u8]) -> Kind
+    ensures { result ≡ forms.kind_of_tool tool.now }
+{
+    if tool == b"query".as_slice() {
+        Kind::Query
+    } else if tool == b"cache".as_slice() {
+        Kind::Cache
+    } else {
+        Kind::Unknown
+    }
+}
+
+/// What words ask for, by the first of them and by how many there are.
+pub fn kind_of(words: &[String]) -> Kind
+    ensures { result ≡ forms.kind_of (map string_bytes words.now) }
+{
+    match words {
+        [] => Kind::Unknown,
+        [word] => kind_of_word(word.as_bytes()),
+        [tool, _operand, ..] => kind_of_tool(tool.as_bytes()),
+    }
+}
+
+/// The word behind a tool, the path of its socket, and the words behind that.
+pub fn operand_of(words: &[String]) -> (&str, &[String])
+    ensures operand { result.0.now ≡ forms.operand_of (map string_bytes words.now) }
+    ensures rest { map string_bytes result.1.now ≡ forms.behind_operand (map string_bytes words.now) }
+{
+    match words {
+        [_tool, operand, rest @ ..] => (operand.as_str(), rest),
+        _ => ("", &[]),
+    }
+}
+
+/// Whether the words of a query end the daemon.
+pub fn is_stop(words: &[String]) -> bool
+    ensures { result ≡ forms.is_stop (map string_bytes words.now) }
+{
+    let [word] = words else {
+        return false;
+    };
+    word.as_bytes() == b"stop".as_slice()
+}
