@@ -1,8 +1,11 @@
 // A case: words of the program, with what they find outside of it.
+use crate::host::ClosedHost;
 use sd_base::{Memory, MemorySink, MemorySource, Numbers};
 use sd_link::MemoryLink;
 use sd_serve::{Coming, MemoryOutside, Status, program};
 use std::alloc::Global;
+use std::sync::Wait;
+use std::thread::Threads;
 
 /// A case, and what it is played with.
 #[derive(Clone, Copy)]
@@ -145,28 +148,37 @@ impl<'a> Case<'a> {
     }
 
     /// Does what the words ask for, and gives the status.
-    fn run(
+    fn run<R: Threads + Wait + Sync>(
         &self,
+        rt: &R,
         alloc: Global,
         sink: &mut MemorySink,
         outside: &mut MemoryOutside,
     ) -> Result<Status, Memory> {
         let words = words_of(alloc, self.words)?;
         let mut source = self.source(alloc)?;
+        let mut host = ClosedHost::new(alloc);
         Ok(program(
+            rt,
             alloc,
             words.as_slice(),
             &mut source,
             sink,
             outside,
+            &mut host,
         ))
     }
 
     /// Plays the case, and appends what it comes to.
-    pub fn play(&self, alloc: Global, out: &mut Vec<u8>) -> Result<(), Memory> {
+    pub fn play<R: Threads + Wait + Sync>(
+        &self,
+        rt: &R,
+        alloc: Global,
+        out: &mut Vec<u8>,
+    ) -> Result<(), Memory> {
         let mut sink = self.sink(alloc)?;
         let mut outside = MemoryOutside::new(alloc, self.coming(alloc)?);
-        let status = self.run(alloc, &mut sink, &mut outside)?;
+        let status = self.run(rt, alloc, &mut sink, &mut outside)?;
         out.extend_from_slice(format!(in alloc; "== {}\n", self.name)?.as_bytes())?;
         out.extend_from_slice(sink.bytes())?;
         out.extend_from_slice(format!(in alloc; "= {status}\n")?.as_bytes())?;

@@ -7,6 +7,7 @@
 #![tactic(auto)]
 
 mod case;
+mod host;
 
 use case::Case;
 use sd_base::{Memory, ReadEnd, ReaderSource, WriterSink, read_all, write_all};
@@ -17,21 +18,21 @@ use std::process::ExitCode;
 const LIMIT: usize = 1 << 16;
 
 /// What all cases come to.
-fn play_cases(alloc: Global, text: &str) -> Result<Vec<u8>, Memory> {
+fn play_cases(rt: &HostRuntime, alloc: Global, text: &str) -> Result<Vec<u8>, Memory> {
     let mut out = Vec::new(alloc);
     for case in text.split("== ") {
         if !case.is_empty() {
-            Case::of(case).play(alloc, &mut out)?;
+            Case::of(case).play(rt, alloc, &mut out)?;
         }
     }
     Ok(out)
 }
 
-fn output_for(alloc: Global, bytes: &[u8]) -> Result<Vec<u8>, u8> {
+fn output_for(rt: &HostRuntime, alloc: Global, bytes: &[u8]) -> Result<Vec<u8>, u8> {
     let Ok(text) = str::from_utf8(bytes) else {
         return Err(2);
     };
-    play_cases(alloc, text).map_err(|_| 7)
+    play_cases(rt, alloc, text).map_err(|_| 7)
 }
 
 fn play_input(rt: &HostRuntime) -> Result<(), u8> {
@@ -42,7 +43,7 @@ fn play_input(rt: &HostRuntime) -> Result<(), u8> {
         Err(ReadEnd::Memory) => return Err(7),
         Err(_) => return Err(3),
     };
-    let out = output_for(alloc, text.as_slice())?;
+    let out = output_for(rt, alloc, text.as_slice())?;
     let mut sink = WriterSink::new(rt.stdout());
     write_all(&mut sink, out.as_slice()).map_err(|_| 4)
 }

@@ -1,8 +1,10 @@
 // The program: it makes the real objects, hands them to `program` with the words behind its name, and ends with its status.
 #![tactic(auto)]
 
+mod host;
 mod outside;
 
+use host::SystemHost;
 use outside::SystemOutside;
 use sd_base::{ReaderSource, WriterSink};
 use sd_serve::{NO_MEMORY, Status, program};
@@ -20,7 +22,16 @@ fn run_words(rt: &HostRuntime, words: &[String]) -> Status {
     let mut source = ReaderSource::new(rt.stdin());
     let mut sink = WriterSink::new(rt.stdout());
     let mut outside = SystemOutside::new(rt);
-    program(rt.alloc(), words, &mut source, &mut sink, &mut outside)
+    let mut host = SystemHost::new(rt);
+    program(
+        rt,
+        rt.alloc(),
+        words,
+        &mut source,
+        &mut sink,
+        &mut outside,
+        &mut host,
+    )
 }
 
 fn run(rt: &HostRuntime) -> Status {

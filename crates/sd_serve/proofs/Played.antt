@@ -3,7 +3,8 @@ use Rattle.std.proofs.Common.{◌≡◌, ℕ, Bool, true, false, cond, List, [],
 use Rattle.std.specs.Prelude.{IfSome, codes}
 use Rattle.sd_rules.specs.Keys.{same_name}
 use Rattle.sd_scenario.specs.Endings.{is_scenario}
-use Rattle.sd_serve.specs.Words.{kind_of}
+use Rattle.sd_serve.specs.Words.{kind_of, kind_by_rest}
+use Rattle.sd_serve.specs.declared.words.Kind.{Kind}
 use Rattle.sd_serve.specs.declared.words.Kind.TheVariants as kinds
 
 by_word : (a b c d : Bool) → cond a kinds.Scenario (cond b kinds.Idmap (cond c kinds.Help (cond d kinds.Version kinds.Unknown))) ≡ kinds.Scenario → a ≡ true
@@ -13,16 +14,25 @@ by_word false false true d e = cc
 by_word false false false true e = cc
 by_word false false false false e = cc
 
-by_tool : (a b : Bool) (P : Type 0) → cond a kinds.Query (cond b kinds.Cache kinds.Unknown) ≡ kinds.Scenario → P
-by_tool true b P e = cc
-by_tool false true P e = cc
-by_tool false false P e = cc
+by_pair : (a : Bool) (P : Type 0) → cond a kinds.Serve kinds.Unknown ≡ kinds.Scenario → P
+by_pair true P e = cc
+by_pair false P e = cc
+
+by_rest : (word : List ℕ) (rest : List (List ℕ)) (P : Type 0) → kind_by_rest word rest ≡ kinds.Scenario → P
+by_rest word [] P e = cc
+by_rest word (second ∷ []) P e = by_pair (same_name word (codes "serve")) P e
+by_rest word (second ∷ third ∷ rest) P e = cc
+
+by_tool : (a b : Bool) (k : Kind) (P : Type 0) → (k ≡ kinds.Scenario → P) → cond a kinds.Query (cond b kinds.Cache k) ≡ kinds.Scenario → P
+by_tool true b k P f e = cc
+by_tool false true k P f e = cc
+by_tool false false k P f e = f e
 
 pub is_the_word : (words : List (List ℕ)) → kind_of words ≡ kinds.Scenario → is_scenario words ≡ true
 is_the_word [] e = cc
 is_the_word (word ∷ []) e =
     by_word (same_name word (codes "scenario")) (same_name word (codes "idmap")) (same_name word (codes "--help")) (same_name word (codes "--version")) e
-is_the_word (tool ∷ operand ∷ rest) e = by_tool (same_name tool (codes "query")) (same_name tool (codes "cache")) _ e
+is_the_word (tool ∷ operand ∷ rest) e = by_tool (same_name tool (codes "query")) (same_name tool (codes "cache")) (kind_by_rest tool rest) _ (by_rest tool rest (is_scenario (tool ∷ operand ∷ rest) ≡ true)) e
 
 pub known_by : (input : Option (List ℕ)) (P Q : List ℕ → Type 0) → ((text : List ℕ) → P text → Q text) → IfSome input P → IfSome input Q
 known_by None P Q f h = tt

@@ -1,9 +1,12 @@
 -- What each word of the program promises, by what its input, its output and its links tell before and after.
-use Rattle.std.specs.Prelude.{◌≡◌, ◌≢◌, ◌⊎◌, ◌≤◌, ◌<◌, ℕ, List, [], ◌∷◌, length, true, false, IfSome, Some, None}
+use Rattle.std.specs.Prelude.{◌≡◌, ◌≢◌, ◌⊎◌, ◌≤◌, ◌<◌, ℕ, List, [], ◌∷◌, length, codes, Bool, true, false, IfSome, Some, None}
 use Rattle.std.specs.declared.option.Option.{Option}
 use Rattle.std.specs.Io.KnownBytes.{Appends}
 use Rattle.sd_base.specs.Causes.{Rose}
 use Rattle.sd_base.specs.Written.{AppendsFront}
+use Rattle.sd_conf.specs.declared.ConfFault.{ConfFault}
+use Rattle.sd_daemon.specs.Refusals as refusals
+use Rattle.sd_daemon.specs.declared.beginning.TheConstants.{DOOR_FAULT, REFUSED}
 use Rattle.sd_idmap.specs.Endings as ids
 use Rattle.sd_idmap.specs.Lines as id_lines
 use Rattle.sd_idmap.specs.Transcript as id_script
@@ -111,3 +114,21 @@ pub record Voids (rest : List (List ℕ)) (told told' : replies.Told) (held held
   -- what was received behind the replies before begins no reply: those were written, and then `bad reply`
   pub bad_reply : status ≡ BAD_REPLY
       → endings.OfOptions (requests_of rest) (λ requests. replies.FindsBadReply requests told told' held held')
+
+-- `serve`, by what its host tells: clients are served by the configuration at a path.
+pub record Serves {H W : Type 0} (text_at : H → List ℕ → Option (List ℕ)) (source_faults door_faults : H → ℕ) (gave ended : H → Bool)
+    (held : W → Option (List ℕ)) (conf : List ℕ) (host host' : H) (sink sink' : W) (status : ℕ) : Type 0 where
+  pub status_is : refusals.IsServeStatus status
+  -- the doors gave a connection, or answered that none will come
+  pub done : status ≡ DONE → (gave host' ≡ true) ⊎ (ended host' ≡ true)
+  -- the configuration is within 1 MiB, and was taken
+  pub taken : (status ≡ DONE) ⊎ (status ≡ DOOR_FAULT) → refusals.IsTaken (text_at host conf)
+  -- the configuration or the seed could not be read
+  pub read_fault : status ≡ READ_FAULT → Rose (source_faults host) (source_faults host')
+  -- the configuration has more than 1 MiB, and `too long` was written
+  pub too_long : status ≡ TOO_LONG → refusals.IsTooLong (text_at host conf) × Appends (held sink) (held sink') (codes "too long\n")
+  -- the configuration is refused for a reason, which was written
+  pub refused : status ≡ REFUSED → (fault : ConfFault) × refusals.IsRefused fault (text_at host conf)
+      × Appends (held sink) (held sink') (refusals.refused (refusals.why_refused fault))
+  -- the doors could not be made, or failed, and `door fault` was written
+  pub door_fault : status ≡ DOOR_FAULT → Rose (door_faults host) (door_faults host') × Appends (held sink) (held sink') (codes "door fault\n")

@@ -15,27 +15,39 @@ kind_of_word word =
     else if same_name word (codes "--version") then kinds.Version
     else kinds.Unknown
 
--- a tool, with the path of a socket behind it
-abbrev pub kind_of_tool : List ℕ → Kind
-kind_of_tool tool =
+-- a word with two more behind it
+abbrev pub kind_of_pair : List ℕ → Kind
+kind_of_pair word = if same_name word (codes "serve") then kinds.Serve else kinds.Unknown
+
+abbrev pub kind_by_rest : List ℕ → List (List ℕ) → Kind
+kind_by_rest word (second ∷ []) = kind_of_pair word
+kind_by_rest word _ = kinds.Unknown
+
+-- a word with a path behind it, and the words behind that
+abbrev pub kind_of_tool : List ℕ → List (List ℕ) → Kind
+kind_of_tool tool rest =
     if same_name tool (codes "query") then kinds.Query
     else if same_name tool (codes "cache") then kinds.Cache
-    else kinds.Unknown
+    else kind_by_rest tool rest
 
 abbrev pub kind_of : List (List ℕ) → Kind
 kind_of [] = kinds.Unknown
 kind_of (word ∷ []) = kind_of_word word
-kind_of (tool ∷ socket ∷ rest) = kind_of_tool tool
+kind_of (tool ∷ operand ∷ rest) = kind_of_tool tool rest
 
--- the word behind a tool: the path of its socket
+-- the word behind the first: the path of a socket, or of a configuration
 abbrev pub operand_of : List (List ℕ) → List ℕ
-operand_of (tool ∷ socket ∷ rest) = socket
+operand_of (tool ∷ operand ∷ rest) = operand
 operand_of _ = []
 
 -- the words behind that
 abbrev pub behind_operand : List (List ℕ) → List (List ℕ)
-behind_operand (tool ∷ socket ∷ rest) = rest
+behind_operand (tool ∷ operand ∷ rest) = rest
 behind_operand _ = []
+
+abbrev pub first_of : List (List ℕ) → List ℕ
+first_of [] = []
+first_of (first ∷ rest) = first
 
 -- the words behind a tool have no form
 abbrev pub LacksForm : Kind → List (List ℕ) → Type 0
@@ -53,6 +65,6 @@ abbrev pub is_stop : List (List ℕ) → Bool
 is_stop (word ∷ []) = same_name word (codes "stop")
 is_stop _ = false
 
--- the statuses of the program: 0, 2 to 8, 13 and 14
+-- the statuses of the program: 0, 2 to 10, 13 and 14
 abbrev pub IsStatus : ℕ → Type 0
-IsStatus status = (status ≢ 1) × ((status ≤ 8) ⊎ ((status ≡ 13) ⊎ (status ≡ 14)))
+IsStatus status = (status ≢ 1) × ((status ≤ 10) ⊎ ((status ≡ 13) ⊎ (status ≡ 14)))

@@ -3,20 +3,26 @@ ghost use Rattle.std.specs.Prelude.{◌≡◌, ◌≢◌, ◌⊎◌, map, string
 ghost use Rattle.std.specs.Io.KnownBytes.{Appends};
 ghost use Rattle.sd_base.specs.Causes.{Rose};
 ghost use Rattle.sd_serve.specs.Outsides.{IsDialledTwice, LinksFirst, LinksOften};
-ghost use Rattle.sd_serve.specs.Promises.{Asks, IsWithin, Numbers, Plays, Prints, Voids};
+ghost use Rattle.sd_serve.specs.Promises.{Asks, IsWithin, Numbers, Plays, Prints, Serves, Voids};
 ghost use Rattle.sd_serve.specs.Words.{behind_operand, HasNoForm, IsStatus, is_stop, kind_of, operand_of};
 ghost use Rattle.sd_tools.specs.Endings as endings;
 
 use crate::outside::Outside;
 use crate::texts::{HELP, VERSION};
 use crate::tools::{cache_at, query_at};
-use crate::words::{Kind, kind_of, operand_of};
+use crate::words::{Kind, first_of, kind_of, operand_of};
 use sd_base::{Sink, Source};
+use sd_daemon::{Host, serve};
+use sd_dial::Dialer;
+use sd_doors::Doors;
 use sd_idmap::idmap;
 use sd_scenario::scenario;
+use sd_server::Equipment;
 use sd_tools::endings::end;
 use sd_tools::{DONE, NO_DAEMON, NO_MEMORY, READ_FAULT, Status, USAGE, WRITE_FAULT};
 use std::alloc::Global;
+use std::sync::Wait;
+use std::thread::Threads;
 
 /// Prints a text.
 fn print<S: Source, W: Sink>(text: &[u8], source: &mut S, sink: &mut W) -> Status
@@ -58,13 +64,24 @@ fn number<S: Source, W: Sink>(
 
 /// Does what the words behind the program's name ask for, over its input, its output and what stands outside of it, and gives the
 /// status that the program ends with. The words are tested before anything is read; `query` and `cache` connect before they read.
-pub fn program<S: Source, W: Sink, O: Outside>(
+pub fn program<R, S, W, O, H>(
+    rt: &R,
     alloc: Global,
     words: &[String],
     source: &mut S,
     sink: &mut W,
     outside: &mut O,
+    host: &mut H,
 ) -> Status
+where
+    R: Threads + Wait + Sync,
+    S: Source,
+    W: Sink,
+    O: Outside,
+    H: Host,
+    <H::Door as Doors>::In: Send + Drop,
+    <H::Door as Doors>::Out: Send + Drop,
+    <<H::Tools as Equipment>::Dial as Dialer>::Line: Send,
     ensures status { IsStatus result }
 
     // What each word does, with the cause of each status that it alone has.
@@ -76,6 +93,8 @@ pub fn program<S: Source, W: Sink, O: Outside>(
         source.old source.new (O.told outside.old) (O.told outside.new) (W.held sink.old) (W.held sink.new) result }
     ensures cache { kind_of (map string_bytes words.now) ≡ Kind.Cache → result ≢ USAGE → Voids (behind_operand (map string_bytes words.now))
         (O.told outside.old) (O.told outside.new) (W.held sink.old) (W.held sink.new) result }
+    ensures serve { kind_of (map string_bytes words.now) ≡ Kind.Serve → Serves H.text_at H.source_faults H.door_faults H.gave H.ended W.held
+        (operand_of (map string_bytes words.now)) host.old host.new sink.old sink.new result }
 
     // A password that was sent has at most 1024 bytes.
     ensures within { kind_of (map string_bytes words.now) ≡ Kind.Query → IsWithin (behind_operand (map string_bytes words.now)) (S.left source.old)
@@ -88,6 +107,10 @@ pub fn program<S: Source, W: Sink, O: Outside>(
         × LinksFirst (operand_of (map string_bytes words.now)) (O.dialled outside.old) (O.dialled outside.new) (Unit {0}) }
     ensures no_link { kind_of (map string_bytes words.now) ≢ Kind.Query → kind_of (map string_bytes words.now) ≢ Kind.Cache → outside.new ≡ outside.old }
 
+    // No other word takes anything of the host, and `serve` reads no input.
+    ensures no_host { kind_of (map string_bytes words.now) ≢ Kind.Serve → host.new ≡ host.old }
+    ensures unread { kind_of (map string_bytes words.now) ≡ Kind.Serve → source.new ≡ source.old }
+
     // A daemon that was told to end is connected to once more, so that it looks up; where that fails, a fault is counted and no more.
     ensures woken { kind_of (map string_bytes words.now) ≡ Kind.Query → result ≡ DONE → is_stop (behind_operand (map string_bytes words.now)) ≡ true
         → IsDialledTwice (operand_of (map string_bytes words.now)) (O.dialled outside.old) (O.dialled outside.new) ⊎ Rose (O.link_faults outside.old) (O.link_faults outside.new) }
@@ -98,25 +121,26 @@ pub fn program<S: Source, W: Sink, O: Outside>(
         × (result ≢ WRITE_FAULT → result ≢ NO_MEMORY → result ≡ USAGE) }
 
     // The source failed in this call. Nothing is written.
-    ensures read_fault { result ≡ READ_FAULT → Rose (S.faults source.old) (S.faults source.new) × (sink.new ≡ sink.old) }
+    ensures read_fault { kind_of (map string_bytes words.now) ≢ Kind.Serve → result ≡ READ_FAULT → Rose (S.faults source.old) (S.faults source.new) × (sink.new ≡ sink.old) }
 
     // The sink failed in this call, or took nothing of a nonempty piece.
     ensures write_fault { result ≡ WRITE_FAULT → Rose (W.faults sink.old) (W.faults sink.new) }
 
     // Want of memory. Nothing is written.
-    ensures no_memory { result ≡ NO_MEMORY → sink.new ≡ sink.old }
+    ensures no_memory { kind_of (map string_bytes words.now) ≢ Kind.Serve → result ≡ NO_MEMORY → sink.new ≡ sink.old }
 
     // A link could not be made, or failed, in this call.
     ensures no_daemon { result ≡ NO_DAEMON → Rose (O.link_faults outside.old) (O.link_faults outside.new) }
 {
-    let (socket, rest) = operand_of(words);
+    let (path, rest) = operand_of(words);
     match kind_of(words) {
         Kind::Scenario => play(alloc, words, source, sink),
         Kind::Idmap => number(alloc, words, source, sink),
         Kind::Help => print(HELP, source, sink),
         Kind::Version => print(VERSION, source, sink),
-        Kind::Query => query_at(alloc, socket, rest, source, sink, outside),
-        Kind::Cache => cache_at(alloc, socket, rest, sink, outside),
+        Kind::Query => query_at(alloc, path, rest, source, sink, outside),
+        Kind::Cache => cache_at(alloc, path, rest, sink, outside),
+        Kind::Serve => serve(rt, alloc, path, first_of(rest), sink, host),
         Kind::Unknown => end(sink, USAGE, b"usage\n"),
     }
 }

@@ -4,6 +4,7 @@
 pub const HELP: &[u8] = b"\
 scenario                    play the scenario that standard input gives
 idmap                       number the SIDs that standard input gives
+serve CONF SOCKET           serve clients on a Unix socket, by a configuration
 query SOCKET user NAME      look a user up
 query SOCKET uid N          look a user up by number
 query SOCKET group NAME     look a group up

@@ -11,6 +11,7 @@ pub enum Kind {
     Idmap,
     Query,
     Cache,
+    Serve,
     /// No word of the program.
     Unknown,
 }
@@ -31,15 +32,35 @@ fn kind_of_word(word: &[u8]) -> Kind
     }
 }
 
-fn kind_of_tool(tool: &[u8]) -> Kind
-    ensures { result ≡ forms.kind_of_tool tool.now }
+fn kind_of_pair(word: &[u8]) -> Kind
+    ensures { result ≡ forms.kind_of_pair word.now }
+{
+    if word == b"serve".as_slice() {
+        Kind::Serve
+    } else {
+        Kind::Unknown
+    }
+}
+
+/// What a word asks for that is no tool's.
+fn kind_by_rest(word: &[u8], rest: &[String]) -> Kind
+    ensures { result ≡ forms.kind_by_rest word.now (map string_bytes rest.now) }
+{
+    match rest {
+        [_second] => kind_of_pair(word),
+        _ => Kind::Unknown,
+    }
+}
+
+fn kind_of_tool(tool: &[u8], rest: &[String]) -> Kind
+    ensures { result ≡ forms.kind_of_tool tool.now (map string_bytes rest.now) }
 {
     if tool == b"query".as_slice() {
         Kind::Query
     } else if tool == b"cache".as_slice() {
         Kind::Cache
     } else {
-        Kind::Unknown
+        kind_by_rest(tool, rest)
     }
 }
 
@@ -50,11 +71,11 @@ pub fn kind_of(words: &[String]) -> Kind
     match words {
         [] => Kind::Unknown,
         [word] => kind_of_word(word.as_bytes()),
-        [tool, _operand, ..] => kind_of_tool(tool.as_bytes()),
+        [tool, _operand, rest @ ..] => kind_of_tool(tool.as_bytes(), rest),
     }
 }
 
-/// The word behind a tool, the path of its socket, and the words behind that.
+/// The word behind the first, which is a path, and the words behind that.
 pub fn operand_of(words: &[String]) -> (&str, &[String])
     ensures operand { result.0.now ≡ forms.operand_of (map string_bytes words.now) }
     ensures rest { map string_bytes result.1.now ≡ forms.behind_operand (map string_bytes words.now) }
@@ -62,6 +83,16 @@ pub fn operand_of(words: &[String]) -> (&str, &[String])
     match words {
         [_tool, operand, rest @ ..] => (operand.as_str(), rest),
         _ => ("", &[]),
+    }
+}
+
+/// The first of words, which is a path.
+pub fn first_of(words: &[String]) -> &str
+    ensures { result.now ≡ forms.first_of (map string_bytes words.now) }
+{
+    match words {
+        [first, ..] => first.as_str(),
+        [] => "",
     }
 }
 
