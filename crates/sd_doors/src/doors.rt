@@ -34,6 +34,5 @@ pub trait Doors {
         ensures gave { gave self.new ≡ gave self.old }
         ensures ended { ended self.new ≡ ended self.old }
         ensures faults { faults self.new ≡ faults self.old }
-    {
-    }
+    {}
 }

@@ -3,28 +3,26 @@ ghost use Rattle.std.specs.Prelude.{◌≡◌, false, None};
 
 use sd_base::{Copied, Memory, Source, SourceFailed};
 use sd_clock::{Clock as Moments, OpenGate};
-use sd_conf::Config;
-use sd_daemon::Host;
+use sd_conf::{Config, Server, ServerList};
+use sd_daemon::{Host, Notice};
+use sd_dial::Dialer;
 use sd_doors::{DoorFailed, Doors};
+use sd_link::LinkFailed;
 use sd_server::Equipment;
-use sd_tcp::TcpDialer;
+use sd_tcp::{TcpDialer, TcpLink};
 use sd_unix::UnixDoors;
 use std::alloc::{Alloc, Global};
 use std::fs::{File, Files};
-use std::io::Read;
+use std::io::{Eprint, Read};
 use std::net::Net;
 use std::random::RandomSource;
+use std::sync::atomic::{AtomicU64, Ordering};
 use std::time::Clock;
 
 /// The system's clock, in whole seconds since 1970-01-01 00:00:00 UTC, so that moments outlive a reboot. It tells no readings.
+#[derive(Drop)]
 pub struct SystemClock<'r, R> {
     rt: &'r R,
-}
-
-impl<'r, R> Drop for SystemClock<'r, R> {
-    fn drop(self) {
-        let SystemClock { rt: _ } = self;
-    }
 }
 
 impl<'r, R: Clock> Moments for SystemClock<'r, R> {
@@ -38,29 +36,116 @@ impl<'r, R: Clock> Moments for SystemClock<'r, R> {
     }
 }
 
-/// What each session is made with: connections over TCP, and the system's clock.
-pub struct SystemTools<'r, R> {
-    rt: &'r R,
+/// Which servers answered when they were last dialled. All sessions share it.
+#[derive(Drop)]
+pub struct Health {
+    /// A bit for each server, of which a configuration has 64 at most: it is set where the server did not answer.
+    fallen: AtomicU64,
 }
 
-impl<'r, R> Drop for SystemTools<'r, R> {
-    fn drop(self) {
-        let SystemTools { rt: _ } = self;
+impl Health {
+    /// Every server counts as one that answers.
+    pub fn new() -> Health {
+        Health {
+            fallen: AtomicU64::new(0),
+        }
+    }
+
+    /// Notes whether a server answered; tells whether that is news.
+    fn note(&self, server: u32, answered: bool) -> bool {
+        let bit = 1u64 << (server % 64);
+        let before = if answered {
+            self.fallen.fetch_and(!bit, Ordering::SeqCst)
+        } else {
+            self.fallen.fetch_or(bit, Ordering::SeqCst)
+        };
+        (before & bit == 0) != answered
     }
 }
 
-impl<'r, R: Net + Clock + Sync> Equipment for SystemTools<'r, R>
+/// A dialer over TCP that logs when a server no longer answers, and when it answers again. A session has one line
+/// at a time.
+#[derive(Drop)]
+pub struct WatchedDialer<'r, R: Net + Clock + Eprint> {
+    rt: &'r R,
+    dialer: TcpDialer<'r, R>,
+    servers: ServerList,
+    health: &'r Health,
+    dialled: u32,
+}
+
+impl<'r, R: Net + Clock + Eprint> WatchedDialer<'r, R> {
+    fn note(&self, answered: bool) {
+        if !self.health.note(self.dialled, answered) {
+            return;
+        }
+        let Some(Server { host, port }) = self.servers.get(self.dialled as usize) else {
+            return;
+        };
+        let host = str::from_utf8(host.bytes()).unwrap_or("?");
+        let news = if answered {
+            "answers again"
+        } else {
+            "does not answer"
+        };
+        let _ = eprintln!(self.rt; "bixethomi: server {host}:{port} {news}");
+    }
+}
+
+impl<'r, R: Net + Clock + Eprint> Dialer for WatchedDialer<'r, R> {
+    type Line = TcpLink<'r, R>;
+
+    ghost operations = { λ _. None };
+
+    ghost received = { λ _. None };
+
+    ghost behind = { λ _ _. None };
+
+    ghost faults = { λ d. ⟦<TcpDialer<'r, R> as Dialer>⟧.faults d.dialer };
+
+    fn dial(&mut self, server: u32) -> Result<TcpLink<'r, R>, LinkFailed> {
+        self.dialled = server;
+        match self.dialer.dial(server) {
+            Ok(line) => Ok(line),
+            Err(LinkFailed) => {
+                self.note(false);
+                Err(LinkFailed)
+            }
+        }
+    }
+
+    fn done(&mut self, line: TcpLink<'r, R>) {
+        let answered = line.faults() == 0;
+        self.dialer.done(line);
+        self.note(answered);
+    }
+}
+
+/// What each session is made with: connections over TCP, and the system's clock.
+#[derive(Drop)]
+pub struct SystemTools<'r, R> {
+    rt: &'r R,
+    health: &'r Health,
+}
+
+impl<'r, R: Net + Clock + Eprint + Sync> Equipment for SystemTools<'r, R>
 where
     R::Stream: Send,
 {
-    type Dial = TcpDialer<'r, R>;
+    type Dial = WatchedDialer<'r, R>;
 
     type Time = SystemClock<'r, R>;
 
     type Watch = OpenGate;
 
-    fn dialer(&mut self, config: &Config) -> Result<TcpDialer<'r, R>, Memory> {
-        Ok(TcpDialer::new(self.rt, config.servers.copy()?))
+    fn dialer(&mut self, config: &Config) -> Result<WatchedDialer<'r, R>, Memory> {
+        Ok(WatchedDialer {
+            rt: self.rt,
+            dialer: TcpDialer::new(self.rt, config.servers.copy()?),
+            servers: config.servers.copy()?,
+            health: self.health,
+            dialled: 0,
+        })
     }
 
     fn clock(&mut self) -> SystemClock<'r, R> {
@@ -95,19 +180,21 @@ impl<F: Read + Drop> Source for FileSource<F> {
     }
 }
 
-/// The system as the daemon's host. It counts faults, and tells no content.
+/// The system as the daemon's host. It counts faults, logs on standard error, and tells no content.
 #[derive(Drop)]
 pub struct SystemHost<'r, R> {
     rt: &'r R,
+    health: &'r Health,
     source_faults: u64,
     door_faults: u64,
     gave: bool,
 }
 
 impl<'r, R> SystemHost<'r, R> {
-    pub fn new(rt: &'r R) -> SystemHost<'r, R> {
+    pub fn new(rt: &'r R, health: &'r Health) -> SystemHost<'r, R> {
         SystemHost {
             rt,
+            health,
             source_faults: 0,
             door_faults: 0,
             gave: false,
@@ -117,7 +204,7 @@ impl<'r, R> SystemHost<'r, R> {
 
 impl<'r, R> Host for SystemHost<'r, R>
 where
-    R: Files + Net + Clock + RandomSource + Alloc<A = Global> + Sync,
+    R: Files + Net + Clock + RandomSource + Eprint + Alloc<A = Global> + Sync,
     R::Stream: Send,
 {
     type File = FileSource<R::File>;
@@ -174,7 +261,10 @@ where
     }
 
     fn equipment(&mut self) -> SystemTools<'r, R> {
-        SystemTools { rt: self.rt }
+        SystemTools {
+            rt: self.rt,
+            health: self.health,
+        }
     }
 
     fn done_doors(&mut self, doors: UnixDoors<'r, R>) {
@@ -183,5 +273,9 @@ where
         }
         self.gave = self.gave || doors.has_given();
         doors.close();
+    }
+
+    fn log(&mut self, notice: Notice) {
+        let _ = eprintln!(self.rt; "bixethomi: {notice}");
     }
 }

@@ -4,10 +4,10 @@
 mod host;
 mod outside;
 
-use host::SystemHost;
+use host::{Health, SystemHost};
 use outside::SystemOutside;
-use sd_base::{ReaderSource, WriterSink};
-use sd_serve::{NO_MEMORY, Status, program};
+use sd_base::{Memory, ReaderSource, WriterSink};
+use sd_serve::{NO_MEMORY, program};
 use std::process::ExitCode;
 use std::{env, io};
 
@@ -18,31 +18,31 @@ fn words(rt: &HostRuntime) -> io::Result<Vec<String>> {
     Ok(args.collect(rt.alloc())?)
 }
 
-fn run_words(rt: &HostRuntime, words: &[String]) -> Status {
-    let mut source = ReaderSource::new(rt.stdin());
-    let mut sink = WriterSink::new(rt.stdout());
-    let mut outside = SystemOutside::new(rt);
-    let mut host = SystemHost::new(rt);
-    program(
-        rt,
-        rt.alloc(),
-        words,
-        &mut source,
-        &mut sink,
-        &mut outside,
-        &mut host,
-    )
-}
-
-fn run(rt: &HostRuntime) -> Status {
+/// The words behind the program's name; none, which have no form, where one of them is not UTF-8.
+fn words_or_none(rt: &HostRuntime) -> Result<Vec<String>, Memory> {
     match words(rt) {
-        Ok(words) => run_words(rt, words.as_slice()),
-        Err(error) if error.kind() == io::ErrorKind::OutOfMemory => NO_MEMORY,
-        // A word is not UTF-8, so the words have no form.
-        Err(_) => run_words(rt, &[]),
+        Ok(words) => Ok(words),
+        Err(error) if error.kind() == io::ErrorKind::OutOfMemory => Err(Memory),
+        Err(_) => Ok(Vec::new(rt.alloc())),
     }
 }
 
 fn main(rt: HostRuntime) -> ExitCode {
-    ExitCode::from(run(&rt))
+    let Ok(words) = words_or_none(&rt) else {
+        return ExitCode::from(NO_MEMORY);
+    };
+    let mut source = ReaderSource::new(rt.stdin());
+    let mut sink = WriterSink::new(rt.stdout());
+    let mut outside = SystemOutside::new(&rt);
+    let health = Health::new();
+    let mut host = SystemHost::new(&rt, &health);
+    ExitCode::from(program(
+        &rt,
+        rt.alloc(),
+        words.as_slice(),
+        &mut source,
+        &mut sink,
+        &mut outside,
+        &mut host,
+    ))
 }

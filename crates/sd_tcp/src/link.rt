@@ -89,7 +89,7 @@ impl<'r, R: Net + Clock> TcpLink<'r, R> {
     }
 
     /// How many calls have failed.
-    pub(crate) fn faults(&self) -> u64
+    pub fn faults(&self) -> u64
         ensures { result ≡ ⟦<TcpLink<'r, R> as Link>⟧.faults self.now }
     {
         self.faults
