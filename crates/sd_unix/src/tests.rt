@@ -45,26 +45,3 @@ fn frames_pass_their_doors(rt: HostRuntime) -> Result<(), Fail> {
     assert!(rt; fs::metadata(&rt, path).is_err());
     Ok(())
 }
-
-/// A silent client waits where it keeps nobody busy, and is served once it closed its end. When the daemon ends, a
-/// client that is between two frames is left.
-#[test]
-fn silent_clients_keep_nobody_busy(rt: HostRuntime) -> Result<(), Fail> {
-    let path = "sd_unix_silent.socket";
-    let mut doors = UnixDoors::open(&rt, path)?;
-    let mut buf = [0u8; 16];
-    let silent = UnixStream::connect(&rt, path)?;
-    let mut client = UnixStream::connect(&rt, path)?;
-    client.write_all(&[0, 0, 0, 5, 2, 0, 0, 0, 7])?;
-    let (mut source, _) = next(&mut doors)?;
-    assert_eq!(rt; source.take(&mut buf), Ok(9));
-
-    drop(silent);
-    let (mut gone, _) = next(&mut doors)?;
-    assert_eq!(rt; gone.take(&mut buf), Ok(0));
-
-    doors.wind_down();
-    assert_eq!(rt; source.take(&mut buf), Err(SourceFailed));
-    doors.close();
-    Ok(())
-}
