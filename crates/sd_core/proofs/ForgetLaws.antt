@@ -28,8 +28,7 @@ use Rattle.sd_forgetting.proofs.Forgets.{needed_kept, needed_orderly}
 use Rattle.sd_forgetting.proofs.Places.{needed_is_part, part_law, key_kept, key_or_none, numbers_before}
 use Rattle.sd_forgetting.proofs.Shown.{event_same, named_is_answer}
 use Rattle.sd_rules.proofs.ReachingLaws.{reaches_self}
-use Rattle.sd_core.specs.Held.{with_entries}
-use Rattle.sd_core.specs.Sound.{falls_from, holds_row, row_holders, closed_by, is_closing_of, is_closed_among, closes_first, closes_once, named_by, names_earlier, all_name_earlier, last_moment, moments_rise, CountsFewWrongs, HasRoom, IsSound, holds_kind, holds_kinds, is_of_kind_of}
+use Rattle.sd_core.specs.Sound.{falls_from, holds_row, row_holders, closed_by, is_closing_of, is_closed_among, closes_first, closes_once, named_by, names_earlier, all_name_earlier, last_moment, moments_rise, CountsFewWrongs, IsSound, holds_kind, holds_kinds, is_of_kind_of}
 use Rattle.sd_core.specs.Laws.{HasOneOpen, HasFitTickets, IsKept, outcome_record, is_unvoided_since, is_asked_since, are_asked_since, is_own_outage, are_own_outages}
 use Rattle.sd_core.proofs.Room.{false_is_not_true}
 use Rattle.sd_core.proofs.KindLaws.{first_holds, second_holds, both_hold}
@@ -276,12 +275,6 @@ pub forget_reaches : (d : Daemon) → Reaches d (after_forget d)
 forget_reaches d = record { moves = Forget ∷ []; can = refl; reached = refl }
 
 -- where the entries that are needed take the place of all
-pub sound_with : (d : Daemon) (es : List Entry) → reverse es ≡ needed d.past → IsKept d → IsSound d → IsSound (with_entries d es)
-sound_with d es same kept sound = subst (λ (ps : List Entry). IsSound (over d ps)) (sym same) (sound_forgotten d kept sound)
-
-pub kept_with : (d : Daemon) (es : List Entry) → reverse es ≡ needed d.past → IsKept d → IsKept (with_entries d es)
-kept_with d es same kept = subst (λ (ps : List Entry). IsKept (over d ps)) (sym same) (kept_forgotten d kept)
-
 -- whether entries were forgotten or not
 pub kept_if_forgotten : {X M : Type 0} (d e : Daemon) (r : Result X M) → OnOk r (e ≡ after_forget d) → OnErr r (e ≡ d) → IsKept d → IsKept e
 kept_if_forgotten d e (Ok x) made same kept = subst IsKept (sym made) (kept_forgotten d kept)

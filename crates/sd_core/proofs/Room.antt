@@ -6,7 +6,7 @@ use Rattle.std.proofs.lemmas.Bool.Decides.{nat_tests}
 use Rattle.sd_rules.specs.declared.replies.Entry.{Entry}
 use Rattle.sd_rules.specs.Requests.{unclosed, closes, opens_request, opens_attempt, has_opened_request, has_opened_attempt, is_open, waits_for, ends_waiting, joined, reserves, reserved_among, reserved_places}
 use Rattle.sd_rules.specs.Steps.{Daemon, number_after, next_number, lacks_places, lacks_numbers}
-use Rattle.sd_core.specs.Sound.{falls_from, HasRoom}
+use Rattle.sd_core.specs.Sound.{falls_from}
 
 -- the next number is above the last entry's
 pub next_is_above : (next : ℕ) (past : List Entry) → falls_from next past ≡ true → number_after next past ≡ next
@@ -214,26 +214,6 @@ numbers_left last next kept d l n k h =
     let here : nat_lt last (next + kept + 2) ≡ false = grind (arith, nat_tests, h) in
     let none : lacks_numbers d ≡ false = grind (arith, nat_tests, l, n, k, h, most) in
     here ∙ sym none
-
--- where even a place for each entry is left, all that are reserved have theirs
-pub room_for_all : (past : List Entry) (capacity : ℕ) → 2 * length past + 2 ≤ capacity → HasRoom past capacity
-room_for_all past capacity h = omega (arith, reserved_at_most past)
-
--- and still after one more entry
-pub room_for_more : (e : Entry) (past : List Entry) (capacity : ℕ) → falls_from e.number past ≡ true → 2 * length past + 2 ≤ capacity → HasRoom (e ∷ past) capacity
-room_for_more e past capacity falls h =
-    let more = one_more e past falls in
-    let most = reserved_at_most past in
-    omega arith
-
--- an entry that gives a place back takes it
-pub room_given_back : (e : Entry) (past : List Entry) (capacity : ℕ) → HasRoom past capacity → reserved_places (e ∷ past) + 1 ≤ reserved_places past →
-    HasRoom (e ∷ past) capacity
-room_given_back e past capacity room back = omega arith
-
--- and there is one to take
-pub place_to_take : (past : List Entry) (after capacity : ℕ) → HasRoom past capacity → after + 1 ≤ reserved_places past → length past < capacity
-place_to_take past after capacity room back = omega arith
 
 -- a number that an entry has is below the next
 pub stands_below : (next n : ℕ) (past : List Entry) → falls_from next past ≡ true → stands n past ≡ true → n < next

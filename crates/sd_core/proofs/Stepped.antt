@@ -13,7 +13,10 @@ use Rattle.sd_rules.specs.Requests.{unclosed, closes, opens_request, opens_attem
 use Rattle.sd_rules.specs.Logins.{accepts, wrongs, wrong_count}
 use Rattle.sd_rules.specs.Steps.{Daemon, next_number, moment_of, reply_to, reply_to_collect, reply_to_leave, entry_made, after, gives_back, is_full, is_steppable, lacks_places, lacks_text, lacks_numbers}
 use Rattle.sd_rules.specs.TextBytes.{text_bytes, bytes_of_event}
-use Rattle.sd_core.specs.Laws.{closes_place}
+use Rattle.sd_index.specs.Filed.{is_filed}
+use Rattle.sd_index.specs.Places.{place_by, ticket_of}
+use Rattle.sd_index.specs.Table.{takes_none}
+use Rattle.sd_past.specs.Closing.{closes_place}
 use Rattle.sd_core.specs.Numbered.{gives_nothing, is_access}
 use Rattle.sd_core.specs.Sound.{falls_from, holds_row, row_holders, IsSound}
 use Rattle.sd_core.proofs.ClosingLaws.{closes_once_after}
@@ -296,3 +299,19 @@ pub closing_reply : (s : Settings) (past : List Entry) (number moment : ℕ) (ev
     closes_place past event ≡ true → gives_nothing reply ≡ true
 closing_reply s past number moment event reply is h =
     subst (λ (r : Reply). gives_nothing r ≡ true) (sym is) (closing_gives_nothing s past number moment event h)
+
+no_ticket : (number : ℕ) (reply : Reply) → gives_nothing reply ≡ true → is_none (ticket_of number reply) ≡ true
+no_ticket number replies.Closed h = refl
+no_ticket number replies.Left h = refl
+no_ticket number _ h = absurd (false_is_not_true h)
+
+keeps_nothing : (past : List Entry) (number : ℕ) (event : Event) (reply : Reply) → closes_place past event ≡ true → gives_nothing reply ≡ true →
+    (not (is_filed event) && is_none (place_by number event reply)) ≡ true
+keeps_nothing past number (events.Abandon n) reply h nothing = no_ticket number reply nothing
+keeps_nothing past number (events.Leave n) reply h nothing = no_ticket number reply nothing
+keeps_nothing past number _ reply h nothing = absurd (false_is_not_true h)
+
+pub closing_takes_none : (d : Daemon) (now : ℕ) (event : Event) → closes_place d.past event ≡ true → takes_none (entry_made d now event) ≡ true
+closing_takes_none d now event h =
+    keeps_nothing d.past (next_number d) event (reply_to d.settings d.past (next_number d) (moment_of d now) event) h
+    (closing_gives_nothing d.settings d.past (next_number d) (moment_of d now) event h)

@@ -14,7 +14,7 @@ use Rattle.sd_rules.specs.declared.replies.NotBy.{NotBy}
 use Rattle.sd_rules.specs.declared.replies.NotBy.TheVariants as not_by
 use Rattle.sd_rules.specs.declared.settings.AccessMode.TheVariants.{Ipa}
 use Rattle.sd_rules.specs.declared.events.Event.{Event}
-use Rattle.sd_rules.specs.declared.events.Event.TheVariants.{Abandon, Access, Answer, Ask, Collect, Leave, LoginGuess, Outage}
+use Rattle.sd_rules.specs.declared.events.Event.TheVariants.{Access, Answer, Ask, Collect, LoginGuess, Outage}
 use Rattle.sd_rules.specs.declared.replies.Entry.{Entry}
 use Rattle.sd_rules.specs.declared.replies.Outcome.{Outcome}
 use Rattle.sd_rules.specs.declared.replies.Outcome.TheVariants as outcomes
@@ -155,12 +155,6 @@ AccessNames s past user service _ = Unit {0}
 abbrev pub GoesByRules : Settings → List Entry → Event → Reply → Type 0
 GoesByRules s past (Access user service) reply = AccessNames s past user service reply
 GoesByRules s past _ reply = Unit {0}
-
--- an Abandon of what is open and a Leave of a ticket that waits: each gives back the place that was reserved for it
-abbrev pub closes_place : List Entry → Event → Bool
-closes_place past (Abandon n) = is_open past n
-closes_place past (Leave ticket) = is_some (waits_for past ticket)
-closes_place past _ = false
 
 -- What holds of every step, said of what it gives over the daemon before it.
 pub record FollowsLaws (d : Daemon) (now : ℕ) (event : Event) (given : Given) : Type 0 where

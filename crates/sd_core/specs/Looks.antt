@@ -4,8 +4,8 @@ use Rattle.sd_rules.specs.declared.events.Event.{Event}
 use Rattle.sd_rules.specs.declared.events.Event.TheVariants.{Stop}
 use Rattle.sd_rules.specs.declared.replies.Entry.{Entry}
 use Rattle.sd_rules.specs.Requests.{is_open_request, waits_for}
-use Rattle.sd_core.specs.declared.plain.Look.{Look}
-use Rattle.sd_core.specs.declared.plain.Look.TheVariants.{Running, Closed, NoTicket}
+use Rattle.sd_core.specs.declared.cores.Look.{Look}
+use Rattle.sd_core.specs.declared.cores.Look.TheVariants.{Running, Closed, NoTicket}
 
 abbrev pub look_by : List Entry → Option ℕ → Look
 look_by past None = NoTicket

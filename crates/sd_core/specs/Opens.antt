@@ -2,8 +2,8 @@
 use Rattle.std.specs.Prelude.{◌≡◌, List, Some, None}
 use Rattle.sd_rules.specs.declared.events.Row.{Row}
 use Rattle.sd_rules.specs.KeptRows.{bad_row}
-use Rattle.sd_core.specs.declared.plain.OpenFault.{OpenFault}
-use Rattle.sd_core.specs.declared.plain.OpenFault.TheVariants as faults
+use Rattle.sd_core.specs.declared.cores.OpenFault.{OpenFault}
+use Rattle.sd_core.specs.declared.cores.OpenFault.TheVariants as faults
 
 -- what a fault says of the rows: BadRows names the first that is against the rules, and memory is wanted for good rows alone
 abbrev pub FaultOf : List Row → OpenFault → Type 0

@@ -1,5 +1,5 @@
 -- What holds of every journal that a core keeps.
-use Rattle.std.specs.Prelude.{ℕ, Bool, true, false, ◌&&◌, ◌||◌, ◌==◌, ◌≡◌, ◌<◌, ◌≤◌, ◌+◌, ◌-◌, ◌*◌, ◌^◌, nat_lt, nat_le, not, length, List, [], ◌∷◌, Option, Some, None, if◌then◌else◌}
+use Rattle.std.specs.Prelude.{ℕ, Bool, true, false, ◌&&◌, ◌||◌, ◌==◌, ◌≡◌, ◌<◌, ◌≤◌, ◌+◌, ◌-◌, ◌*◌, ◌^◌, nat_lt, nat_le, not, List, [], ◌∷◌, Option, Some, None, if◌then◌else◌}
 use Rattle.sd_rules.specs.declared.keys.Key.{Key}
 use Rattle.sd_rules.specs.declared.records.Record.{Record}
 use Rattle.sd_rules.specs.declared.events.Event.{Event}
@@ -104,10 +104,6 @@ pub record IsSound (d : Daemon) : Type 0 where
   pub rows : row_holders d.past < 2 ^ 32 - 1
   pub wrongs : CountsFewWrongs d
   pub closings : closes_once d.past ≡ true
-
--- a list of entries has room for itself and for an entry for each reserved place
-abbrev pub HasRoom : List Entry → ℕ → Type 0
-HasRoom past capacity = length past + reserved_places past ≤ capacity
 
 -- the answer that an entry holds is absence, or a record of its own key's kind
 abbrev pub holds_kind : Option Standing → Bool

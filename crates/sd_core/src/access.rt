@@ -1,5 +1,5 @@
 // Account checks, by mode, by the simple lists, or by the access rules of the directory.
-ghost use Rattle.std.specs.Prelude.{◌≡◌, ◌<◌, ◌^◌, map, reverse, IfOk};
+ghost use Rattle.std.specs.Prelude.{◌≡◌, ◌<◌, ◌^◌, map, IfOk};
 ghost use Rattle.std.specs.Option.{option_map};
 ghost use Rattle.sd_rules.specs.Access as access;
 ghost use Rattle.sd_rules.specs.TextBytes as bytes;
@@ -9,9 +9,10 @@ ghost use Rattle.sd_core.specs.Bounds.{bytes_of_standing};
 
 use sd_base::{Copied, Memory, Text, Texts};
 use sd_hbac::{allowed, simple};
-use sd_journal::past::{Standing, newest};
+use sd_journal::past::Standing;
+use sd_past::Past;
 use sd_rules::{
-    AccessMode, Answered, By, Entry, GroupRef, Key, NotBy, Record, Reply, RuleBook, Settings, Who,
+    AccessMode, Answered, By, GroupRef, Key, NotBy, Record, Reply, RuleBook, Settings, Who,
 };
 use std::alloc::Global;
 
@@ -51,11 +52,11 @@ fn groups_of_host(alloc: Global, answer: Option<Standing<'_>>) -> Result<Texts, 
     }
 }
 
-fn user_groups(alloc: Global, entries: &[Entry], user: &Text) -> Result<Texts, Memory>
-    ensures { IfOk result (λ groups. groups ≡ access.user_groups (reverse entries.now) user.now) }
+fn user_groups<P: Past>(alloc: Global, past: &P, user: &Text) -> Result<Texts, Memory>
+    ensures { IfOk result (λ groups. groups ≡ access.user_groups (P.entries past.now) user.now) }
 {
     let key = Key::GroupsOf(user.copy()?);
-    groups_of_user(alloc, newest(entries, &key))
+    groups_of_user(alloc, past.newest(&key))
 }
 
 fn reply_by_rule(number: u64, rule: Option<u32>) -> Reply
@@ -93,18 +94,18 @@ fn reply_by_lists(allowed: bool) -> Reply
 }
 
 #[tactic(auto, using(crate::proofs::Sizes::newest_within))]
-fn access_by_rules(
+fn access_by_rules<P: Past>(
     alloc: Global,
     settings: &Settings,
-    entries: &[Entry],
+    past: &P,
     user: &Text,
     service: &Text,
 ) -> Result<Reply, Memory>
-    requires { bytes.text_bytes (reverse entries.now) < 2 ^ 32 }
-    ensures { IfOk result (λ reply. reply ≡ access.access_by AccessMode.Ipa settings.now (reverse entries.now) user.now service.now) }
+    requires { bytes.text_bytes (P.entries past.now) < 2 ^ 32 }
+    ensures { IfOk result (λ reply. reply ≡ access.access_by AccessMode.Ipa settings.now (P.entries past.now) user.now service.now) }
 {
-    let groups = user_groups(alloc, entries, user)?;
-    let host_groups = groups_of_host(alloc, newest(entries, &Key::Host))?;
+    let groups = user_groups(alloc, past, user)?;
+    let host_groups = groups_of_host(alloc, past.newest(&Key::Host))?;
     let who = Who {
         user,
         groups: &groups,
@@ -112,27 +113,27 @@ fn access_by_rules(
         host: &settings.hostname,
         host_groups: &host_groups,
     };
-    Ok(reply_by_rules(&who, newest(entries, &Key::Rules)))
+    Ok(reply_by_rules(&who, past.newest(&Key::Rules)))
 }
 
 /// The reply to an account check of a user at a service.
-pub fn access_of(
+pub fn access_of<P: Past>(
     alloc: Global,
     settings: &Settings,
-    entries: &[Entry],
+    past: &P,
     user: &Text,
     service: &Text,
 ) -> Result<Reply, Memory>
-    requires { bytes.text_bytes (reverse entries.now) < 2 ^ 32 }
-    ensures { IfOk result (λ reply. reply ≡ access.access_of settings.now (reverse entries.now) user.now service.now) }
+    requires { bytes.text_bytes (P.entries past.now) < 2 ^ 32 }
+    ensures { IfOk result (λ reply. reply ≡ access.access_of settings.now (P.entries past.now) user.now service.now) }
 {
     match settings.access {
         AccessMode::Permit => Ok(Reply::Granted(By::Permit)),
         AccessMode::Deny => Ok(Reply::Denied(NotBy::Deny)),
         AccessMode::Simple => {
-            let groups = user_groups(alloc, entries, user)?;
+            let groups = user_groups(alloc, past, user)?;
             Ok(reply_by_lists(simple(&settings.simple, user, &groups)))
         }
-        AccessMode::Ipa => access_by_rules(alloc, settings, entries, user, service),
+        AccessMode::Ipa => access_by_rules(alloc, settings, past, user, service),
     }
 }

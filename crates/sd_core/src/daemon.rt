@@ -6,13 +6,14 @@ ghost use Rattle.sd_rules.specs.Reaching as reaching;
 ghost use Rattle.sd_rules.specs.Steps as steps;
 ghost use Rattle.sd_rules.specs.TextBytes as bytes;
 ghost use Rattle.sd_forgetting.specs.Kept as shown;
+ghost use Rattle.sd_past.specs.Closing.{closes_place};
 ghost use Rattle.sd_core.specs.Growth as growth;
 ghost use Rattle.sd_core.specs.Laws as laws;
 ghost use Rattle.sd_core.specs.Looks as looks;
 ghost use Rattle.sd_core.specs.Opens as opens;
 ghost use Rattle.sd_core.specs.Sound as sound;
 
-use crate::plain::{Look, OpenFault, PlainCore};
+use crate::cores::{IndexedCore, Look, OpenFault};
 use sd_base::Memory;
 use sd_rules::{Entry, Event, Given, Journal, Refused, Rows, Settings, StepFault};
 use std::alloc::Global;
@@ -21,7 +22,7 @@ use std::marker::Model;
 /// The core of the daemon: the one journal and the replies to events.
 #[derive(Drop)]
 pub struct Core {
-    plain: PlainCore,
+    indexed: IndexedCore,
 }
 
 impl Model for Core {
@@ -30,9 +31,9 @@ impl Model for Core {
 
     ghost Value = { steps.Daemon };
 
-    ghost view = { λ c. c.plain };
+    ghost view = { λ c. c.indexed };
 
-    ghost invariant = { λ c. laws.IsKept c.plain };
+    ghost invariant = { λ c. laws.IsKept c.indexed };
 }
 
 impl Core {
@@ -45,15 +46,33 @@ impl Core {
         ensures fault { IfErr result (opens.FaultOf rows) }
         ensures kept { IfOk result laws.IsKept }
     {
-        let plain = PlainCore::open(alloc, settings, rows)?;
-        Ok(Core { plain })
+        let indexed = IndexedCore::open(alloc, settings, rows)?;
+        Ok(Core { indexed })
+    }
+
+    /// The same, for names that come from outside: whoever chooses them cannot choose their hashes without the secret.
+    pub fn open_keyed(
+        alloc: Global,
+        settings: Settings,
+        rows: Rows,
+        secret: &[u8],
+    ) -> Result<Core, OpenFault>
+        requires servers { settings.primaries + settings.backups ≤ 64 }
+        requires few { length rows < 2 ^ 32 }
+        ensures opened { IfOk result (λ core. core ≡ kept.opened settings rows) }
+        ensures good { OnOk result (kept.bad_row rows ≡ None) }
+        ensures fault { IfErr result (opens.FaultOf rows) }
+        ensures kept { IfOk result laws.IsKept }
+    {
+        let indexed = IndexedCore::open_keyed(alloc, settings, rows, secret)?;
+        Ok(Core { indexed })
     }
 
     /// The entries made so far, the oldest first.
     pub fn journal(&self) -> &[Entry]
         ensures { reverse result.now ≡ self.now.past }
     {
-        self.plain.journal()
+        self.indexed.journal()
     }
 
     /// The rows that are kept of the journal over a restart.
@@ -65,7 +84,7 @@ impl Core {
         // Of a journal for which all laws hold.
         ensures lawful { laws.IsKept self.now }
     {
-        self.plain.kept()
+        self.indexed.kept()
     }
 
     /// The number of the next entry.
@@ -74,21 +93,21 @@ impl Core {
         ensures kept { laws.IsKept self.now }
         ensures sound { sound.IsSound self.now }
     {
-        self.plain.next_number()
+        self.indexed.next_number()
     }
 
     /// What a ticket waits for. It makes no entry and takes no memory.
     pub fn look(&self, ticket: u64) -> Look
         ensures { result ≡ looks.look_of self.now.past ticket }
     {
-        self.plain.look(ticket)
+        self.indexed.look(ticket)
     }
 
     /// Whether the operator's word to end the daemon was given.
     pub fn stopping(&self) -> bool
         ensures { result ≡ looks.has_stopped self.now.past }
     {
-        self.plain.stopping()
+        self.indexed.stopping()
     }
 
     /// Makes the entry of an event and gives what it says; `now` is the moment handed in, in seconds. A full journal refuses before
@@ -103,7 +122,7 @@ impl Core {
         ensures full_only { IfErr result (λ refused. (n : ℕ) → refused.fault ≡ StepFault.JournalFull n → (steps.is_full self.old event ≡ true) × (n ≡ steps.full_count self.old)) }
         ensures back { IfErr result (λ refused. refused.event ≡ event) }
         ensures unchanged { OnErr result (self.new ≡ self.old) }
-        ensures closing { laws.closes_place self.old.past event ≡ true → IsOk result }
+        ensures closing { closes_place self.old.past event ≡ true → IsOk result }
         ensures texts { bytes.text_bytes self.new.past ≤ 512 * 1024 * 1024 }
 
         // What follows from the definitions, for every journal that the core keeps.
@@ -116,7 +135,7 @@ impl Core {
         ensures legal { growth.KeepsGrown self.old self.new }
         ensures part { growth.KeepsPart self.old self.new }
     {
-        self.plain.step(now, event)
+        self.indexed.step(now, event)
     }
 
     /// Forgets the entries that no later event can look at, and hands them back, the oldest first. For want of memory all are kept.
@@ -131,6 +150,6 @@ impl Core {
         ensures reached { reaching.Reaches self.old self.new }
         ensures part { growth.KeepsPart self.old self.new }
     {
-        self.plain.forget()
+        self.indexed.forget()
     }
 }

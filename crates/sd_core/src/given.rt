@@ -2,9 +2,11 @@
 ghost use Rattle.std.specs.Prelude.{◌≡◌, true, reverse, None, IfOk, IsOk};
 ghost use Rattle.std.specs.Option.{option_copied};
 ghost use Rattle.sd_rules.specs.Steps as steps;
+ghost use Rattle.sd_index.specs.Entries.{falls};
 ghost use Rattle.sd_core.specs.Numbered as replies;
 
 use sd_base::{Copied, Memory, Text};
+use sd_index::entries::event_at;
 use sd_rules::{
     Answered, By, Entry, Event, Given, Hash, LoginResult, Outcome, Record, Reply, Row, Rule,
 };
@@ -19,19 +21,8 @@ fn record_of(event: &Event) -> Option<&Record>
     }
 }
 
-fn event_at(entries: &[Entry], number: u64) -> Option<&Event>
-    ensures { option_copied result ≡ steps.event_at (reverse entries.now) number }
-{
-    for place in (0..entries.len()).rev() {
-        let entry = &entries[place];
-        if entry.number == number {
-            return Some(&entry.event);
-        }
-    }
-    None
-}
-
 fn record_at(entries: &[Entry], number: u64) -> Option<&Record>
+    requires { falls (reverse entries.now) ≡ true }
     ensures { option_copied result ≡ steps.record_in (steps.event_at (reverse entries.now) number) }
 {
     match event_at(entries, number) {
@@ -60,6 +51,7 @@ fn answer_named(reply: Reply) -> Option<u64>
 }
 
 fn record_named(entries: &[Entry], reply: Reply) -> Option<&Record>
+    requires { falls (reverse entries.now) ≡ true }
     ensures { option_copied result ≡ steps.record_named (reverse entries.now) reply }
 {
     match answer_named(reply) {
@@ -88,6 +80,7 @@ fn login_named(reply: Reply) -> Option<u64>
 }
 
 fn hash_at(entries: &[Entry], number: u64) -> Option<Hash>
+    requires { falls (reverse entries.now) ≡ true }
     ensures { result ≡ steps.hash_in (steps.event_at (reverse entries.now) number) }
 {
     match event_at(entries, number) {
@@ -97,6 +90,7 @@ fn hash_at(entries: &[Entry], number: u64) -> Option<Hash>
 }
 
 fn hash_named(entries: &[Entry], reply: Reply) -> Option<Hash>
+    requires { falls (reverse entries.now) ≡ true }
     ensures { result ≡ steps.hash_named (reverse entries.now) reply }
 {
     match login_named(reply) {
@@ -124,6 +118,7 @@ fn rule_in(found: Option<&Record>, place: u32) -> Option<&Text>
 }
 
 fn rule_named(entries: &[Entry], reply: Reply) -> Option<&Text>
+    requires { falls (reverse entries.now) ≡ true }
     ensures { option_copied result ≡ steps.rule_named (reverse entries.now) reply }
 {
     match reply {
@@ -145,6 +140,7 @@ fn copy_of<T: Copied>(item: Option<&T>) -> Result<Option<T>, Memory>
 
 /// What an entry of this number and reply gives, over the entries before it.
 pub fn given_by(entries: &[Entry], number: u64, reply: Reply) -> Result<Given, Memory>
+    requires { falls (reverse entries.now) ≡ true }
     ensures made { IfOk result (λ given. given ≡ steps.given_by (reverse entries.now) number reply) }
     ensures free { replies.gives_nothing reply ≡ true → IsOk result }
 {

@@ -2,14 +2,16 @@
 ghost use Rattle.std.specs.Prelude.{◌≡◌, ℕ, ◌+◌, true, false, IfOk, IfErr, IsOk, OnErr, OnOk};
 ghost use Rattle.sd_rules.specs.Reaching as reaching;
 ghost use Rattle.sd_rules.specs.Steps as steps;
+ghost use Rattle.sd_past.specs.Closing.{closes_place};
 ghost use Rattle.sd_core.specs.Growth as growth;
 ghost use Rattle.sd_core.specs.Laws as laws;
 ghost use Rattle.sd_core.specs.Lists as lists;
 ghost use Rattle.sd_core.specs.declared.lists.ListFault.TheVariants as faults;
 
 use crate::daemon::Core;
-use crate::plain::PlainCore;
+use crate::cores::EntryCore;
 use sd_base::{Copied, Items, Memory};
+use sd_past::Past;
 use sd_rules::{Event, Given, Refused, StepFault};
 use std::alloc::Global;
 
@@ -38,10 +40,10 @@ pub trait Answers {
         ensures full_only { IfErr result (λ refused. (n : ℕ) → refused.fault ≡ StepFault.JournalFull n → (steps.is_full (daemon self.old) event ≡ true) × (n ≡ steps.full_count (daemon self.old))) }
         ensures back { IfErr result (λ refused. refused.event ≡ event) }
         ensures unchanged { OnErr result (daemon self.new ≡ daemon self.old) }
-        ensures closing { laws.closes_place (daemon self.old).past event ≡ true → IsOk result };
+        ensures closing { closes_place (daemon self.old).past event ≡ true → IsOk result };
 }
 
-impl Answers for PlainCore {
+impl<P: Past> Answers for EntryCore<P> {
     ghost daemon = { λ c. c };
 
     fn answer(&mut self, now: u64, event: Event) -> Result<Given, Refused> {

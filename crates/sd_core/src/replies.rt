@@ -7,12 +7,14 @@ ghost use Rattle.sd_journal.specs.Seen as seen;
 ghost use Rattle.sd_core.specs.Numbered as replies;
 
 use crate::access::access_of;
+use crate::opens::is_open;
 use sd_base::{Memory, Text};
-use sd_journal::answers::{is_found, reply_to_ask};
+use sd_journal::answers::is_found;
 use sd_journal::logins::{Login, cached_login, usable_hash, user_of, verdict_of, verdict_of_try};
-use sd_journal::past::{Standing, key_of, newest, outage_at, voids};
-use sd_journal::requests::{is_open, is_open_attempt, is_open_request, outcome_of, waits_for};
+use sd_journal::past::{Standing, key_of, voids};
+use sd_journal::requests::outcome_of;
 use sd_journal::servers::{picked_server, was_picked};
+use sd_past::Past;
 use sd_rules::{Answered, Entry, Event, Key, Outcome, Reply, Settings};
 use std::alloc::Global;
 
@@ -56,11 +58,11 @@ fn reply_by_void(void: Option<u64>) -> Reply
     }
 }
 
-fn reply_to_answer(entries: &[Entry], request: u64, own: Option<&Key>, answered: &Answered) -> Reply
-    ensures { result ≡ steps.reply_to_answer (reverse entries.now) request (option_copied own.entry) answered.now }
+fn reply_to_answer<P: Past>(past: &P, request: u64, own: Option<&Key>, answered: &Answered) -> Reply
+    ensures { result ≡ steps.reply_to_answer (P.entries past.now) request (option_copied own.entry) answered.now }
 {
     match own {
-        Some(own) => reply_by_void(void_since(entries, request, own, answered)),
+        Some(own) => reply_by_void(void_since(past.list(), request, own, answered)),
         None => Reply::NoRequest,
     }
 }
@@ -89,44 +91,44 @@ fn outage_outcome(number: u64, answer: Option<Standing<'_>>) -> Outcome
     }
 }
 
-fn outcome_in_outage(entries: &[Entry], number: u64, key: Option<&Key>) -> Outcome
-    ensures { result ≡ steps.outcome_in_outage (reverse entries.now) number (option_copied key.entry) }
+fn outcome_in_outage<P: Past>(past: &P, number: u64, key: Option<&Key>) -> Outcome
+    ensures { result ≡ steps.outcome_in_outage (P.entries past.now) number (option_copied key.entry) }
 {
     match key {
-        Some(key) => outage_outcome(number, newest(entries, key)),
+        Some(key) => outage_outcome(number, past.newest(key)),
         None => Outcome::Dark(number),
     }
 }
 
-fn reply_to_closing_outage(entries: &[Entry], number: u64, closed: u64) -> Reply
-    ensures { result ≡ steps.reply_to_closing_outage (reverse entries.now) number closed }
+fn reply_to_closing_outage<P: Past>(past: &P, number: u64, closed: u64) -> Reply
+    ensures { result ≡ steps.reply_to_closing_outage (P.entries past.now) number closed }
 {
-    if is_open_request(entries, closed) {
-        Reply::Shut(outcome_in_outage(entries, number, key_of(entries, closed)))
+    if past.is_open_request(closed) {
+        Reply::Shut(outcome_in_outage(past, number, key_of(past.list(), closed)))
     } else {
         Reply::Closed
     }
 }
 
-fn reply_to_outage(entries: &[Entry], number: u64, closed: u64, picked: Option<u32>) -> Reply
-    ensures { result ≡ steps.reply_to_outage (reverse entries.now) number closed picked }
+fn reply_to_outage<P: Past>(past: &P, number: u64, closed: u64, picked: Option<u32>) -> Reply
+    ensures { result ≡ steps.reply_to_outage (P.entries past.now) number closed picked }
 {
     match picked {
         Some(server) => Reply::Servable(server),
-        None => reply_to_closing_outage(entries, number, closed),
+        None => reply_to_closing_outage(past, number, closed),
     }
 }
 
 /// The reply to a Collect of a ticket that waits for this request, or for none.
-pub fn reply_to_collect(entries: &[Entry], request: Option<u64>) -> Reply
-    ensures { result ≡ steps.reply_to_collect (reverse entries.now) request }
+pub fn reply_to_collect<P: Past>(past: &P, request: Option<u64>) -> Reply
+    ensures { result ≡ steps.reply_to_collect (P.entries past.now) request }
 {
     match request {
         Some(request) => {
-            if is_open_request(entries, request) {
+            if past.is_open_request(request) {
                 Reply::NotYet(request)
             } else {
-                Reply::Took(outcome_of(entries, request))
+                Reply::Took(outcome_of(past.list(), request))
             }
         }
         None => Reply::NoTicket,
@@ -151,19 +153,19 @@ fn reply_by_cached(number: u64, login: Option<u64>) -> Reply
     }
 }
 
-fn reply_to_login(
+fn reply_to_login<P: Past>(
     settings: &Settings,
-    entries: &[Entry],
+    past: &P,
     number: u64,
     t: u64,
     user: &Text,
     outage: Option<u64>,
 ) -> Reply
-    ensures { result ≡ steps.reply_to_login settings.now (reverse entries.now) number t user.now outage }
+    ensures { result ≡ steps.reply_to_login settings.now (P.entries past.now) number t user.now outage }
 {
     match outage {
         Some(outage) => Reply::Offline(outage),
-        None => reply_by_cached(number, cached_login(settings, entries, t, user)),
+        None => reply_by_cached(number, cached_login(settings, past.list(), t, user)),
     }
 }
 
@@ -176,89 +178,89 @@ fn reply_to_look(login: Option<Login>) -> Reply
     }
 }
 
-fn reply_to_try(
+fn reply_to_try<P: Past>(
     settings: &Settings,
-    entries: &[Entry],
+    past: &P,
     t: u64,
     named: u64,
     right: bool,
     user: Option<&Text>,
 ) -> Reply
-    ensures { result ≡ steps.reply_to_try settings.now (reverse entries.now) t named right (option_copied user.entry) }
+    ensures { result ≡ steps.reply_to_try settings.now (P.entries past.now) t named right (option_copied user.entry) }
 {
     match user {
-        Some(user) => { Reply::Tried(verdict_of_try(settings, entries, t, user, named, right)) }
+        Some(user) => { Reply::Tried(verdict_of_try(settings, past.list(), t, user, named, right)) }
         None => Reply::NoRequest,
     }
 }
 
 /// The reply to an event that names a request or an attempt. Here any other has NoRequest, too.
-fn reply_under_number(
+fn reply_under_number<P: Past>(
     settings: &Settings,
-    entries: &[Entry],
+    past: &P,
     number: u64,
     t: u64,
     event: &Event,
 ) -> Reply
     requires { settings.now.primaries + settings.now.backups < 2 ^ 32 }
-    ensures { replies.names_number event.now ≡ true → result ≡ steps.reply_to settings.now (reverse entries.now) number t event.now }
+    ensures { replies.names_number event.now ≡ true → result ≡ steps.reply_to settings.now (P.entries past.now) number t event.now }
 {
     match event {
-        Event::Pick(n) if is_open(entries, *n) => {
-            reply_by_pick(picked_server(settings, entries, *n, t))
+        Event::Pick(n) if is_open(past, *n) => {
+            reply_by_pick(picked_server(settings, past.list(), *n, t))
         }
-        Event::Fall(n, server, _) if is_open(entries, *n) => {
-            if was_picked(entries, *n, *server) {
+        Event::Fall(n, server, _) if is_open(past, *n) => {
+            if was_picked(past.list(), *n, *server) {
                 Reply::Noted
             } else {
                 Reply::NotPicked
             }
         }
-        Event::Answer(n, answered) if is_open_request(entries, *n) => {
-            reply_to_answer(entries, *n, key_of(entries, *n), answered)
+        Event::Answer(n, answered) if past.is_open_request(*n) => {
+            reply_to_answer(past, *n, key_of(past.list(), *n), answered)
         }
-        Event::Refuse(n, _) if is_open_request(entries, *n) => Reply::Closed,
-        Event::Outage(n) if is_open(entries, *n) => {
-            reply_to_outage(entries, number, *n, picked_server(settings, entries, *n, t))
+        Event::Refuse(n, _) if past.is_open_request(*n) => Reply::Closed,
+        Event::Outage(n) if is_open(past, *n) => {
+            reply_to_outage(past, number, *n, picked_server(settings, past.list(), *n, t))
         }
-        Event::Abandon(n) if is_open(entries, *n) => Reply::Closed,
-        Event::LoginOnline(n, _) if is_open_attempt(entries, *n) => Reply::Closed,
-        Event::LoginTry(n, named, right) if is_open_attempt(entries, *n) => {
-            reply_to_try(settings, entries, t, *named, *right, user_of(entries, *n))
+        Event::Abandon(n) if is_open(past, *n) => Reply::Closed,
+        Event::LoginOnline(n, _) if past.is_open_attempt(*n) => Reply::Closed,
+        Event::LoginTry(n, named, right) if past.is_open_attempt(*n) => {
+            reply_to_try(settings, past, t, *named, *right, user_of(past.list(), *n))
         }
         _ => Reply::NoRequest,
     }
 }
 
 /// The reply to an event, over the entries before it; `number` and `t` are the number and the moment of its own entry.
-pub fn reply_to(
+pub fn reply_to<P: Past>(
     alloc: Global,
     settings: &Settings,
-    entries: &[Entry],
+    past: &P,
     number: u64,
     t: u64,
     event: &Event,
 ) -> Result<Reply, Memory>
     requires servers { settings.now.primaries + settings.now.backups < 2 ^ 32 }
-    requires texts { bytes.text_bytes (reverse entries.now) < 2 ^ 32 }
-    ensures made { IfOk result (λ reply. reply ≡ steps.reply_to settings.now (reverse entries.now) number t event.now) }
+    requires texts { bytes.text_bytes (P.entries past.now) < 2 ^ 32 }
+    ensures made { IfOk result (λ reply. reply ≡ steps.reply_to settings.now (P.entries past.now) number t event.now) }
     ensures free { replies.is_access event.now ≡ false → IsOk result }
 {
     Ok(match event {
-        Event::Ask(key) => reply_to_ask(settings, entries, number, t, key),
-        Event::Collect(ticket) => reply_to_collect(entries, waits_for(entries, *ticket)),
-        Event::Leave(ticket) => reply_to_leave(waits_for(entries, *ticket)),
+        Event::Ask(key) => past.reply_to_ask(settings, number, t, key),
+        Event::Collect(ticket) => reply_to_collect(past, past.waits_for(*ticket)),
+        Event::Leave(ticket) => reply_to_leave(past.waits_for(*ticket)),
         Event::Void(_) | Event::Offline | Event::Online | Event::Stop => Reply::Done,
         Event::LoginOpen(user) => {
-            let outage = outage_at(settings.offline_timeout, entries, t);
-            reply_to_login(settings, entries, number, t, user, outage)
+            let outage = past.outage_at(settings.offline_timeout, t);
+            reply_to_login(settings, past, number, t, user, outage)
         }
-        Event::LoginLook(user) => reply_to_look(usable_hash(settings, entries, user)),
+        Event::LoginLook(user) => reply_to_look(usable_hash(settings, past.list(), user)),
         Event::LoginGuess(user, named, right) => {
-            Reply::Judged(verdict_of(settings, entries, t, user, *named, *right))
+            Reply::Judged(verdict_of(settings, past.list(), t, user, *named, *right))
         }
-        Event::Access(user, service) => access_of(alloc, settings, entries, user, service)?,
+        Event::Access(user, service) => access_of(alloc, settings, past, user, service)?,
         Event::Kept(_) => Reply::Held,
-        _ => reply_under_number(settings, entries, number, t, event),
+        _ => reply_under_number(settings, past, number, t, event),
     })
 }

@@ -3,9 +3,9 @@ pub mod Halves
 mod OutageLaws
 mod BoundLaws
 mod VoidLaws
-mod PlaceLaws
+pub mod PlaceLaws
 mod FoundLaws
-mod CountLaws
+pub mod CountLaws
 mod RunningLaws
 mod AnswerLaws
 mod OpenLaws

@@ -277,6 +277,11 @@ request_is past n h =
     let some : (m : ℕ) × (numbers_fall m past ≡ true) = falls_from_some past h in
     requests_of past some.0 n some.1
 
+pub attempt_is : (past : List Entry) (n : ℕ) → falls past ≡ true → list_any (is_attempt_of n) (reserved past) ≡ is_open_attempt past n
+attempt_is past n h =
+    let some : (m : ℕ) × (numbers_fall m past ≡ true) = falls_from_some past h in
+    attempts_of past some.0 n some.1
+
 pub waits_is : (past : List Entry) (t : ℕ) → falls past ≡ true → waits_in (reserved past) t ≡ waits_for past t
 waits_is past t h =
     let some : (m : ℕ) × (numbers_fall m past ≡ true) = falls_from_some past h in

@@ -19,7 +19,9 @@ ghost use Rattle.sd_index.specs.Voids.{HoldsVoids};
 use crate::answers::put_answer;
 use crate::asked::{is_filtered, reply_by_newest};
 use crate::outages::{Outage, outage_after, standing_at};
-use crate::places::{Place, frees, has_request, make_room, place_of, running, settle, waits};
+use crate::places::{
+    Place, frees, has_attempt, has_request, make_room, place_of, running, settle, waits,
+};
 use crate::texts::of_event;
 use crate::voids::Voids;
 use sd_base::Memory;
@@ -169,6 +171,13 @@ impl Index {
         ensures { (past : List Entry) → Indexes past self.now → result ≡ requests.is_open_request past number }
     {
         has_request(self.places.as_slice(), number)
+    }
+
+    /// Whether a login attempt of this number is open.
+    pub fn is_open_attempt(&self, number: u64) -> bool
+        ensures { (past : List Entry) → Indexes past self.now → result ≡ requests.is_open_attempt past number }
+    {
+        has_attempt(self.places.as_slice(), number)
     }
 
     /// The request that a ticket waits for, where it waits.

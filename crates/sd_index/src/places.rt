@@ -161,7 +161,8 @@ pub fn has_request(places: &[Place], number: u64) -> bool
     places.iter().any(|place| is_request_of(place, number))
 }
 
-fn has_attempt(places: &[Place], number: u64) -> bool
+/// Whether a login attempt of this number is open.
+pub fn has_attempt(places: &[Place], number: u64) -> bool
     ensures { result ≡ list_any (placed.is_attempt_of number) places.now }
 {
     places.iter().any(|place| is_attempt_of(place, number))

@@ -109,6 +109,7 @@ fn asks_again(rt: &impl Abort, alloc: Global, index: &Index) -> Result<(), Memor
 fn tells(rt: &impl Abort, index: &Index) {
     assert!(rt; index.open_for(&Key::Uid(7)) == Some(3));
     assert!(rt; index.is_open_request(3));
+    assert!(rt; !index.is_open_attempt(3));
     assert!(rt; index.waits_for(3).is_none());
     assert!(rt; index.outage_at(60, 1).is_none());
     assert!(rt; index.newest(&Key::Uid(1000)).is_some());

@@ -8,22 +8,22 @@ use Rattle.sd_core.proofs.PartLaws.{part_if_forgotten}
 use Rattle.sd_core.proofs.daemon.Core.forget.Goals as goal
 
 pub invariant_of-self : goal.invariant_of-self
-invariant_of-self c = kept_if_forgotten c.self.inside.plain c.forget.new.self c.forget.result c.forget.ensures.forgotten c.forget.ensures.unchanged c.self.invariant
+invariant_of-self c = kept_if_forgotten c.self.inside.indexed c.forget.new.self c.forget.result c.forget.ensures.forgotten c.forget.ensures.unchanged c.self.invariant
 
 pub returns-clause-shown : goal.returns-clause-shown
 returns-clause-shown c =
     subst (λ (d : Daemon). Keeps d c.forget.new.self) c.self.view_is
-    (shown_if_forgotten c.self.inside.plain c.forget.new.self c.forget.result c.forget.ensures.forgotten c.forget.ensures.unchanged c.self.invariant)
+    (shown_if_forgotten c.self.inside.indexed c.forget.new.self c.forget.result c.forget.ensures.forgotten c.forget.ensures.unchanged c.self.invariant)
 
 pub returns-clause-kept : goal.returns-clause-kept
-returns-clause-kept c = kept_if_forgotten c.self.inside.plain c.forget.new.self c.forget.result c.forget.ensures.forgotten c.forget.ensures.unchanged c.self.invariant
+returns-clause-kept c = kept_if_forgotten c.self.inside.indexed c.forget.new.self c.forget.result c.forget.ensures.forgotten c.forget.ensures.unchanged c.self.invariant
 
 pub returns-clause-reached : goal.returns-clause-reached
 returns-clause-reached c =
     subst (λ (d : Daemon). Reaches d c.forget.new.self) c.self.view_is
-    (reached_if_forgotten c.self.inside.plain c.forget.new.self c.forget.result c.forget.ensures.forgotten c.forget.ensures.unchanged)
+    (reached_if_forgotten c.self.inside.indexed c.forget.new.self c.forget.result c.forget.ensures.forgotten c.forget.ensures.unchanged)
 
 pub returns-clause-part : goal.returns-clause-part
 returns-clause-part c =
     subst (λ (d : Daemon). KeepsPart d c.forget.new.self) c.self.view_is
-    (λ (opened : Daemon). part_if_forgotten opened c.self.inside.plain c.forget.new.self c.forget.result c.forget.ensures.forgotten c.forget.ensures.unchanged c.self.invariant)
+    (λ (opened : Daemon). part_if_forgotten opened c.self.inside.indexed c.forget.new.self c.forget.result c.forget.ensures.forgotten c.forget.ensures.unchanged c.self.invariant)

@@ -1,0 +1,23 @@
+use Rattle.std.proofs.Common.{subst}
+use Rattle.sd_core.specs.Sound.{IsSound}
+use Rattle.sd_core.proofs.HeldLaws.{rows_kept, kept_few, kept_fit}
+use Rattle.sd_core.proofs.cores.EntryCore.kept.Goals as goal
+
+pub returns-clause-rows : goal.returns-clause-rows
+returns-clause-rows g c =
+    rows_kept c.rows_of.result c.self.inside.settings c.self.inside.next c.self.inside.floor c.as_slice.result.now c.self.inside.entries.items c.args.self.now
+    c.rows_of.ensures c.as_slice.ensures.value c.self.view_is
+
+pub returns-clause-few : goal.returns-clause-few
+returns-clause-few g c =
+    kept_few c.rows_of.result c.args.self.now
+    (rows_kept c.rows_of.result c.self.inside.settings c.self.inside.next c.self.inside.floor c.as_slice.result.now c.self.inside.entries.items c.args.self.now
+    c.rows_of.ensures c.as_slice.ensures.value c.self.view_is)
+    (subst IsSound c.self.view_is c.self.invariant.sound)
+
+pub returns-clause-texts : goal.returns-clause-texts
+returns-clause-texts g c =
+    kept_fit c.rows_of.result c.args.self.now
+    (rows_kept c.rows_of.result c.self.inside.settings c.self.inside.next c.self.inside.floor c.as_slice.result.now c.self.inside.entries.items c.args.self.now
+    c.rows_of.ensures c.as_slice.ensures.value c.self.view_is)
+    (subst IsSound c.self.view_is c.self.invariant.sound)
