@@ -1,6 +1,7 @@
 -- The parts of a core after an entry was put behind the others, or was not, and after a forget.
 use Rattle.std.proofs.Common.{◌≡◌, ℕ, ◌+◌, ◌-◌, ◌*◌, ◌^◌, ◌≤◌, Bool, ◌||◌, List, [], ◌∷◌, reverse, min, true, arith, refl, sym, ap, subst, ◌∙◌}
 use Rattle.std.specs.Prelude.{Result, Ok, Err, IfOk, length, sum_by, ◌<◌, ◌&&◌, nat_lt}
+use Rattle.std.proofs.lemmas.Bool.Decides.{nat_tests}
 use Rattle.sd_rules.specs.declared.events.Row.{Row}
 use Rattle.sd_rules.specs.declared.replies.Entry.{Entry}
 use Rattle.sd_rules.specs.declared.settings.Settings.{Settings}
@@ -15,7 +16,7 @@ use Rattle.sd_core.specs.Laws.{IsKept}
 use Rattle.sd_core.specs.Looks.{has_stopped, is_stop}
 use Rattle.sd_core.specs.Sound.{falls_from, IsSound}
 use Rattle.sd_core.proofs.ForgetLaws.{sound_forgotten, kept_forgotten}
-use Rattle.sd_core.proofs.KindLaws.{second_holds}
+use Rattle.sd_core.proofs.KindLaws.{first_holds, second_holds}
 use Rattle.sd_core.proofs.RowBytes.{rows_few, rows_fit}
 
 -- numbers that fall, as an index has it
@@ -26,6 +27,14 @@ numbers_same n (e ∷ past) = ap (λ (b : Bool). nat_lt e.number n && b) (number
 pub falls_if_sound : (next : ℕ) (past : List Entry) → falls_from next past ≡ true → falls past ≡ true
 falls_if_sound next [] h = refl
 falls_if_sound next (e ∷ past) h = sym (numbers_same e.number past) ∙ second_holds (nat_lt e.number next) (falls_from e.number past) h
+
+-- as many entries as there are numbers below the next
+pub entries_below : (n : ℕ) (past : List Entry) → falls_from n past ≡ true → length past ≤ n
+entries_below n [] h = omega arith
+entries_below n (e ∷ past) h =
+    let lt : e.number < n = grind (arith, nat_tests, first_holds (nat_lt e.number n) (falls_from e.number past) h) in
+    let rest = entries_below e.number past (second_holds (nat_lt e.number n) (falls_from e.number past) h) in
+    omega (arith, lt, rest)
 
 pub falls_below : (d : Daemon) (e : Entry) → IsSound (recorded d e) → numbers_fall e.number d.past ≡ true
 falls_below d e sound =

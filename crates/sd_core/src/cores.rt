@@ -1,5 +1,5 @@
 // A core: it answers from the entries made so far.
-ghost use Rattle.std.specs.Prelude.{◌≡◌, ◌↔◌, ℕ, ◌+◌, ◌-◌, ◌*◌, ◌^◌, ◌<◌, ◌≤◌, [], ◌∷◌, true, false, length, reverse, min, sum_by, vec_capacity, None, IfOk, IfErr, IfSome, IsOk, IsSome, OnErr, OnOk};
+ghost use Rattle.std.specs.Prelude.{◌≡◌, ◌↔◌, ◌||◌, ℕ, ◌+◌, ◌-◌, ◌*◌, ◌^◌, ◌<◌, ◌≤◌, [], ◌∷◌, true, false, length, reverse, min, sum_by, vec_capacity, None, IfOk, IfErr, IfSome, IsOk, IsSome, OnErr, OnOk};
 ghost use Rattle.sd_rules.specs.KeptRows as kept;
 ghost use Rattle.sd_rules.specs.Needed as needed;
 ghost use Rattle.sd_rules.specs.Reaching as reaching;
@@ -13,7 +13,7 @@ ghost use Rattle.sd_core.specs.Laws as laws;
 ghost use Rattle.sd_core.specs.Looks as looks;
 ghost use Rattle.sd_core.specs.Opens as opens;
 ghost use Rattle.sd_core.specs.Sound as sound;
-ghost use Rattle.sd_core.specs.declared.plain.OpenFault.TheVariants as faults;
+ghost use Rattle.sd_core.specs.declared.cores.OpenFault.TheVariants as faults;
 
 use crate::given::given_by;
 use crate::opens::is_open;
@@ -107,6 +107,13 @@ fn is_stop(event: &Event) -> bool
     ensures { result ≡ looks.is_stop event.now }
 {
     matches!(event, Event::Stop)
+}
+
+/// Whether the word to end stands after one more event.
+fn stops_after(event: &Event, before: bool) -> bool
+    ensures { result ≡ (looks.is_stop event.now || before) }
+{
+    is_stop(event) || before
 }
 
 fn has_stopped(entries: &[Entry]) -> bool
@@ -288,7 +295,14 @@ impl<P: Past> EntryCore<P> {
         ensures closing { closes_place self.now.past event.now ≡ true → IsOk result }
     {
         let number = self.next_number();
-        let reply = reply_to(self.alloc, &self.settings, &self.past, number, moment, event)?;
+        let reply = reply_to(
+            self.alloc,
+            &self.settings,
+            &self.past,
+            number,
+            moment,
+            event,
+        )?;
         given_by(self.past.list(), number, reply)
     }
 
@@ -304,7 +318,7 @@ impl<P: Past> EntryCore<P> {
     {
         let next = entry.number + 1;
         let text_bytes = self.text_bytes + of_event(&entry.event);
-        let has_stopped = is_stop(&entry.event) || self.has_stopped;
+        let has_stopped = stops_after(&entry.event, self.has_stopped);
         self.past.put(entry)?;
         self.next = next;
         self.text_bytes = text_bytes;

@@ -8,8 +8,8 @@ ghost use Rattle.sd_core.specs.Laws as laws;
 ghost use Rattle.sd_core.specs.Lists as lists;
 ghost use Rattle.sd_core.specs.declared.lists.ListFault.TheVariants as faults;
 
-use crate::daemon::Core;
 use crate::cores::EntryCore;
+use crate::daemon::Core;
 use sd_base::{Copied, Items, Memory};
 use sd_past::Past;
 use sd_rules::{Event, Given, Refused, StepFault};

@@ -221,7 +221,12 @@ fn reply_under_number<P: Past>(
         }
         Event::Refuse(n, _) if past.is_open_request(*n) => Reply::Closed,
         Event::Outage(n) if is_open(past, *n) => {
-            reply_to_outage(past, number, *n, picked_server(settings, past.list(), *n, t))
+            reply_to_outage(
+                past,
+                number,
+                *n,
+                picked_server(settings, past.list(), *n, t),
+            )
         }
         Event::Abandon(n) if is_open(past, *n) => Reply::Closed,
         Event::LoginOnline(n, _) if past.is_open_attempt(*n) => Reply::Closed,

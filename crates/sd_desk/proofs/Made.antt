@@ -17,7 +17,7 @@ use Rattle.sd_rules.specs.Needed.{forgotten}
 use Rattle.sd_rules.specs.Reaching.{Reaches, after_forget}
 use Rattle.sd_rules.specs.Requests.{waits_for, is_open_request, outcome_of, is_took}
 use Rattle.sd_rules.specs.Steps.{Daemon, entry_made, after, reply_to_collect, lacks_places, lacks_text, lacks_numbers}
-use Rattle.sd_core.specs.declared.plain.Look.TheVariants.{Running, Closed}
+use Rattle.sd_core.specs.declared.cores.Look.TheVariants.{Running, Closed}
 use Rattle.sd_core.specs.Laws.{IsKept}
 use Rattle.sd_core.specs.Looks.{look_by, look_of}
 use Rattle.sd_core.specs.Sound.{IsSound}

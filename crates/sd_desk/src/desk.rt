@@ -30,7 +30,7 @@ impl Desk {
     ghost use Rattle.sd_turn.specs.Seats as seats;
     ghost use Rattle.sd_rules.specs.Reaching.{Reaches};
     ghost use Rattle.sd_rules.specs.Steps as steps;
-    ghost use Rattle.sd_core.specs.Laws.{closes_place};
+    ghost use Rattle.sd_past.specs.Closing.{closes_place};
     ghost use Rattle.sd_core.specs.Looks.{has_stopped};
     ghost use Rattle.sd_rules.specs.KeptRows.{rows_of};
     ghost use Rattle.sd_rules.specs.TextBytes.{bytes_of_row};

@@ -3,6 +3,7 @@ ghost use Rattle.std.specs.Prelude.{◌≡◌, ℕ, ◌<◌, true, false, IfOk, 
 ghost use Rattle.sd_rules.specs.Needed as needed;
 ghost use Rattle.sd_rules.specs.Reaching as reaching;
 ghost use Rattle.sd_rules.specs.Steps as steps;
+ghost use Rattle.sd_past.specs.Closing.{closes_place};
 ghost use Rattle.sd_core.specs.Laws as laws;
 ghost use Rattle.sd_desk.specs.Steps.{HasBoundedTexts, WasFull};
 
@@ -90,7 +91,7 @@ impl SharedCore {
         ensures full { IfErr result (λ refused. (n : ℕ) → refused.fault ≡ StepFault.JournalFull n → WasFull self.old.core event n) }
         ensures back { IfErr result (λ refused. refused.event ≡ event) }
         ensures unchanged { OnErr result (self.new.core ≡ self.old.core) }
-        ensures closing { OnErr result (laws.closes_place self.old.core.past event ≡ false) }
+        ensures closing { OnErr result (closes_place self.old.core.past event ≡ false) }
         ensures laws { IfOk result (laws.FollowsLaws self.old.core now event) }
         ensures texts { IfOk result (HasBoundedTexts event) }
         ensures reached { reaching.Reaches self.old.core self.new.core }

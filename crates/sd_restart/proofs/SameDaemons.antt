@@ -18,8 +18,8 @@ use Rattle.sd_rules.specs.Requests.{is_open_request}
 use Rattle.sd_rules.specs.Steps.{Daemon, after, answers_kind, entry_made, given, given_by, is_steppable, moment_after, moment_of, next_number, reply_to}
 use Rattle.sd_core.specs.declared.lists.Step.{Step}
 use Rattle.sd_core.specs.Opens.{FaultOf}
-use Rattle.sd_core.specs.declared.plain.OpenFault.{OpenFault}
-use Rattle.sd_core.specs.declared.plain.OpenFault.TheVariants as faults
+use Rattle.sd_core.specs.declared.cores.OpenFault.{OpenFault}
+use Rattle.sd_core.specs.declared.cores.OpenFault.TheVariants as faults
 use Rattle.sd_core.specs.Lists.{all_given, are_steppable}
 use Rattle.sd_core.specs.Laws.{IsKept}
 use Rattle.sd_core.specs.Sound.{falls_from, last_moment, moments_rise}

@@ -4,8 +4,8 @@ use Rattle.sd_rules.specs.declared.settings.Settings.{Settings}
 use Rattle.sd_rules.specs.KeptRows.{bad_row, opened, reopened, rows_of}
 use Rattle.sd_rules.specs.Steps.{Daemon}
 use Rattle.sd_core.specs.declared.lists.Step.{Step}
-use Rattle.sd_core.specs.declared.plain.OpenFault.{OpenFault}
-use Rattle.sd_core.specs.declared.plain.OpenFault.TheVariants as faults
+use Rattle.sd_core.specs.declared.cores.OpenFault.{OpenFault}
+use Rattle.sd_core.specs.declared.cores.OpenFault.TheVariants as faults
 use Rattle.sd_core.specs.Lists.{all_given, are_steppable}
 
 -- a daemon that is opened with the rows kept of another, with settings of its own

@@ -28,12 +28,13 @@ fn is_within_bounds(config: &Config) -> bool
         && config.pwfield.bytes().len() <= 255
 }
 
-fn open_core(alloc: Global, settings: Settings) -> Result<Core, Memory>
+/// A core without entries. The names that it keeps come from outside: they are hashed with a secret.
+fn open_core(alloc: Global, settings: Settings, secret: &[u8]) -> Result<Core, Memory>
     requires { settings.primaries + settings.backups ≤ 64 }
     ensures settings { IfOk result (λ core. core.settings ≡ settings) }
     ensures next { IfOk result (λ core. 0 < core.next) }
 {
-    match Core::open(alloc, settings, Rows::new(alloc)) {
+    match Core::open_keyed(alloc, settings, Rows::new(alloc), secret) {
         Ok(core) => Ok(core),
         Err(_) => Err(Memory),
     }
@@ -44,7 +45,9 @@ fn open_desk(alloc: Global, config: Config, salts: Salts) -> Result<(Desk, DeskS
     requires { is_servable config ≡ true }
     ensures { IfOk result (λ made. IsOwn made.0 made.1 × HoldsNoTurn made.1) }
 {
-    let core = open_core(alloc, config.settings.copy()?)?;
+    // No attempt has the number 0, so nobody is shown this salt.
+    let secret = salts.salt(0);
+    let core = open_core(alloc, config.settings.copy()?, secret.as_slice())?;
     Desk::new(alloc, core, config, salts)
 }
 

@@ -7,5 +7,5 @@ use Rattle.sd_core.proofs.cores.EntryCore.lacks_places.Goals as goal
 
 pub returns-else-limit-entries : goal.returns-else-limit-entries
 returns-else-limit-entries g c =
-    let kept = ap (λ (es : List Entry). length es) c.as_slice-entries.ensures.value ∙ sym (length-reverse c.self.inside.entries.items) ∙ ap (λ (d : Daemon). length d.past) c.self.view_is in
+    let kept = sym (length-reverse c.list-entries.result.now) ∙ ap (λ (es : List Entry). length es) c.list-entries.ensures ∙ ap (λ (d : Daemon). length d.past) c.self.view_is in
     places_left _ _ c.args.self.now c.requires kept c.if-limit-entries.false

@@ -1,6 +1,11 @@
-use Rattle.std.proofs.Common.{rules, ◌≡◌, None, arith, sym, subst, ◌∙◌}
+use Rattle.std.proofs.Common.{rules, ◌≡◌, ◌-◌, ◌^◌, List, None, min, reverse, arith, ap, sym, subst, ◌∙◌}
+use Rattle.sd_rules.specs.declared.replies.Entry.{Entry}
 use Rattle.sd_rules.specs.KeptRows.{bad_row}
+use Rattle.sd_rules.specs.TextBytes.{text_bytes}
+use Rattle.sd_core.specs.Held.{daemon_of}
 use Rattle.sd_core.specs.Laws.{IsKept}
+use Rattle.sd_core.specs.Looks.{has_stopped}
+use Rattle.sd_core.specs.Sound.{IsSound}
 use Rattle.sd_core.proofs.HeldLaws.{falls_if_sound, held_at_first, next_at_first}
 use Rattle.sd_core.proofs.OpeningLaws.{bad_row_within, kept_at_first, sound_at_first}
 use Rattle.sd_core.proofs.cores.EntryCore.open_keyed.Goals as goal
@@ -9,3 +14,30 @@ pub overflow_cast-result : goal.overflow_cast-result
 overflow_cast-result g c =
     let within = bad_row_within c.args.rows c.in-Some.place (sym c.in-Some.ensures) in
     omega (arith, within, c.requires.few)
+
+pub open-requires : goal.open-requires
+open-requires g c =
+    let good : bad_row c.args.rows ≡ None = search rules in
+    let is = c.in_ok-next.ensures c.args.settings in
+    let sound = sound_at_first c.args.settings c.args.rows c.requires.servers c.requires.few
+    (next_at_first c.args.settings c.args.rows c.in_ok-next.field-0.next c.in_ok-next.field-0.floor (reverse c.in_ok-next.field-0.entries.items) is (omega arith)) good in
+    let here : IsSound (daemon_of c.args.settings c.in_ok-next.field-0.next c.in_ok-next.field-0.floor (reverse c.in_ok-next.field-0.entries.items)) = subst IsSound (sym is) sound in
+    falls_if_sound c.in_ok-next.field-0.next (reverse c.in_ok-next.field-0.entries.items) here.numbers
+
+pub invariant_of-result : goal.invariant_of-result
+invariant_of-result g c =
+    let good : bad_row c.args.rows ≡ None = search rules in
+    let is = c.in_ok-next.ensures c.args.settings in
+    held_at_first c.args.settings c.args.rows c.in_ok-next.field-0.next c.in_ok-next.field-0.floor c.of_entries-text_bytes.result c.has_stopped-has_stopped.result
+    c.in_ok-next.field-0.entries.items (g.P.Past.entries c.in_ok-past.past) is c.in_ok-past.ensures
+    (c.of_entries-text_bytes.ensures ∙ ap (λ (es : List Entry). min (text_bytes (reverse es)) (2 ^ 64 - 1)) c.as_slice.ensures.value)
+    (c.has_stopped-has_stopped.ensures ∙ ap (λ (es : List Entry). has_stopped (reverse es)) c.as_slice-2.ensures.value)
+    (sound_at_first c.args.settings c.args.rows c.requires.servers c.requires.few
+    (next_at_first c.args.settings c.args.rows c.in_ok-next.field-0.next c.in_ok-next.field-0.floor (reverse c.in_ok-next.field-0.entries.items) is (omega arith)) good)
+    (kept_at_first c.args.settings c.args.rows good)
+
+pub returns-clause-kept : goal.returns-clause-kept
+returns-clause-kept g c =
+    let good : bad_row c.args.rows ≡ None = search rules in
+    let same = ap (λ (es : List Entry). daemon_of c.args.settings c.in_ok-next.field-0.next c.in_ok-next.field-0.floor es) c.in_ok-past.ensures ∙ c.in_ok-next.ensures c.args.settings in
+    subst IsKept (sym same) (kept_at_first c.args.settings c.args.rows good)

@@ -4,7 +4,7 @@ use Rattle.sd_rules.specs.declared.replies.Entry.{Entry}
 use Rattle.sd_rules.specs.Steps.{Daemon}
 use Rattle.sd_rules.specs.Reaching.{Reaches}
 use Rattle.sd_rules.specs.Requests.{waits_for}
-use Rattle.sd_core.specs.declared.plain.Look.TheVariants.{Running}
+use Rattle.sd_core.specs.declared.cores.Look.TheVariants.{Running}
 use Rattle.sd_core.specs.Looks.{look_of}
 use Rattle.sd_desk.specs.declared.shared.SharedCore.{SharedCore}
 use Rattle.sd_desk.specs.Desks.{front, mine, found}

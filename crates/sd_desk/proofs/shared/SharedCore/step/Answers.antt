@@ -1,4 +1,4 @@
-use Rattle.sd_core.specs.Laws.{closes_place}
+use Rattle.sd_past.specs.Closing.{closes_place}
 use Rattle.sd_desk.proofs.Made.{not_closing}
 use Rattle.sd_desk.proofs.Texts.{bounded_if_made}
 use Rattle.sd_desk.proofs.shared.SharedCore.step.Goals as goal
