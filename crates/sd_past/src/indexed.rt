@@ -2,7 +2,6 @@
 ghost use Rattle.std.specs.Prelude.{◌≡◌, ◌+◌, ◌≤◌, ◌∷◌, ◌++◌, [], List, length, true, reverse, vec_capacity, IfOk, IfErr, IsOk, OnErr, OnOk};
 ghost use Rattle.std.specs.Option.{option_map};
 ghost use Rattle.sd_rules.specs.declared.replies.Entry.{Entry};
-ghost use Rattle.sd_rules.specs.Needed as needed;
 ghost use Rattle.sd_rules.specs.Requests as requests;
 ghost use Rattle.sd_index.specs.Entries.{falls, numbers_fall};
 ghost use Rattle.sd_index.specs.Places.{gives_back_in};
@@ -10,14 +9,14 @@ ghost use Rattle.sd_index.specs.Table.{Indexes, takes_none};
 ghost use Rattle.sd_past.specs.Closing.{closes_place, HasRoom};
 
 use crate::past::Past;
-use crate::room::{copied, make_room, with_room};
+use crate::room::{make_room, with_room};
 use crate::standings::newest_by;
 use sd_base::Memory;
 use sd_cache::Primed;
 use sd_index::Index;
 use sd_journal::past::Standing;
-use sd_needs::{forgotten, needed};
 use sd_rules::{Entry, Event, Journal, Key, Reply, Settings};
+use sd_sieve::{Sifted, sift};
 use std::alloc::Global;
 use std::marker::Model;
 
@@ -108,15 +107,6 @@ fn put_indexed(entries: &mut Vec<Entry>, index: &mut Index, entry: Entry) -> Res
     }
 }
 
-/// A copy of the entries that a forget keeps, with room for those that close what is open.
-fn needed_entries(alloc: Global, entries: &[Entry]) -> Result<Vec<Entry>, Memory>
-    ensures same { IfOk result (λ made. reverse made.items ≡ needed.needed (reverse entries.now)) }
-    ensures room { IfOk result (λ made. HasRoom (reverse made.items) (vec_capacity made)) }
-{
-    let kept = needed(alloc, entries)?;
-    copied(alloc, kept.items())
-}
-
 impl IndexedPast {
     /// Puts other entries and their index in the place of all.
     fn keep(&mut self, entries: Vec<Entry>, index: Index)
@@ -180,10 +170,10 @@ impl Past for IndexedPast {
     }
 
     fn forget(&mut self, alloc: Global) -> Result<Journal, Memory> {
-        let dropped = forgotten(alloc, self.entries.as_slice())?;
-        let kept = needed_entries(alloc, self.entries.as_slice())?;
-        let index = Index::of(alloc, self.hasher, kept.as_slice())?;
-        self.keep(kept, index);
+        let Sifted { kept, dropped } = sift(alloc, self.entries.as_slice(), &self.index)?;
+        let entries = with_room(kept)?;
+        let index = Index::of(alloc, self.hasher, entries.as_slice())?;
+        self.keep(entries, index);
         Ok(dropped)
     }
 }

@@ -7,6 +7,7 @@ use Rattle.sd_past.proofs.indexed.IndexedPastPast.forget.Goals as goal
 
 pub of-requires : goal.of-requires
 of-requires c =
-    let here = ap (λ (es : List Entry). reverse es) c.as_slice-3.ensures.value in
-    let same = here ∙ c.in_ok-kept.ensures.same ∙ ap (λ (es : List Entry). needed (reverse es)) c.as_slice-2.ensures.value in
+    let here = ap (λ (es : List Entry). reverse es) c.as_slice-2.ensures.value in
+    let room = ap (λ (es : List Entry). reverse es) c.in_ok-entries.ensures.same in
+    let same = here ∙ room ∙ c.in_ok-kept.ensures.kept ∙ ap (λ (es : List Entry). needed (reverse es)) c.as_slice.ensures.value in
     subst (λ (es : List Entry). falls es ≡ true) (sym same) (needed_falls (reverse c.self.inside.entries.items) c.self.invariant.0.numbers)

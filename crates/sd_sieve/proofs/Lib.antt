@@ -1,0 +1,7 @@
+pub mod MarkLaws
+pub mod FindingLaws
+pub mod ServeLaws
+pub mod ReadLaws
+pub mod UserLaws
+pub mod ServerLaws
+pub mod SinceLaws

@@ -1,0 +1,6 @@
+pub mod Whole
+pub mod Marks
+pub mod Users
+pub mod Falls
+pub mod Findings
+pub mod Readings

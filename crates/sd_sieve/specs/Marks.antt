@@ -1,0 +1,20 @@
+-- Marks of entries, the newest first: whether each passes a test, which is told the entries before it.
+use Rattle.std.specs.Prelude.{◌≡◌, Bool, List, [], ◌∷◌, reverse}
+use Rattle.sd_rules.specs.declared.replies.Entry.{Entry}
+use Rattle.sd_rules.specs.Needed.{is_newest_answer, is_looked_at, is_needed}
+
+abbrev pub marks : (List Entry → Entry → Bool) → List Entry → List Bool
+marks test [] = []
+marks test (e ∷ past) = test past e ∷ marks test past
+
+-- the marks of a journal's entries, the oldest first: of those that hold the newest answer of a key
+abbrev pub MarkNewest : List Entry → List Bool → Type 0
+MarkNewest all ms = reverse ms ≡ marks (is_newest_answer (reverse all)) (reverse all)
+
+-- of those that are looked at
+abbrev pub MarkLooked : List Entry → List Bool → Type 0
+MarkLooked all ms = reverse ms ≡ marks (is_looked_at (reverse all)) (reverse all)
+
+-- of those that are needed
+abbrev pub MarkNeeded : List Entry → List Bool → Type 0
+MarkNeeded all ms = reverse ms ≡ marks (is_needed (reverse all)) (reverse all)

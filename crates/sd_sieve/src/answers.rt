@@ -1,0 +1,109 @@
+// Which answers are the newest of a key, by the index.
+ghost use Rattle.std.specs.Prelude.{◌≡◌, [], ◌∷◌, reverse, IfOk, None};
+ghost use Rattle.std.specs.List.{list_any};
+ghost use Rattle.std.specs.Option.{option_copied, option_map};
+ghost use Rattle.sd_rules.specs.Needed as needed;
+ghost use Rattle.sd_journal.specs.Seen as seen;
+ghost use Rattle.sd_sieve.specs.Findings as findings;
+ghost use Rattle.sd_sieve.specs.Marks.{MarkNewest};
+ghost use Rattle.sd_sieve.specs.Whole as held;
+
+use crate::whole::Whole;
+use sd_base::{Copied, Memory};
+use sd_cache::Newest;
+use sd_journal::past::{Standing, answer_in};
+use sd_rules::{Answered, Entry, Key, Record};
+use std::alloc::Global;
+
+fn is_number_kept(number: u64, newest: Option<&Newest>) -> bool
+    ensures { result ≡ findings.is_number_kept number (option_copied newest.entry) }
+{
+    match newest {
+        Some(newest) => newest.number == number,
+        None => false,
+    }
+}
+
+/// Whether the answer of a number is the newest of a key.
+fn is_newest_of(whole: Whole<'_>, number: u64, key: &Key) -> bool
+    requires { held.IsIndexed whole }
+    ensures { result ≡ needed.is_newest_of (held.past_of whole.entry) number key.now }
+{
+    is_number_kept(number, whole.index.newest(key))
+}
+
+fn is_newest_of_two(whole: Whole<'_>, number: u64, name: &Key, id: &Key) -> bool
+    requires { held.IsIndexed whole }
+    ensures { result ≡ list_any (λ key. needed.is_newest_of (held.past_of whole.entry) number key) (name.now ∷ id.now ∷ []) }
+{
+    is_newest_of(whole, number, name) || is_newest_of(whole, number, id)
+}
+
+/// Whether the answer of a number is the newest of a key of its record.
+fn is_newest_of_record(whole: Whole<'_>, number: u64, found: &Record) -> Result<bool, Memory>
+    requires { held.IsIndexed whole }
+    ensures { IfOk result (λ is. is ≡ list_any (λ key. needed.is_newest_of (held.past_of whole.entry) number key) (needed.keys_of_record found.now)) }
+{
+    match found {
+        Record::User(user) => {
+            let name = Key::User(user.name.copy()?);
+            let uid = Key::Uid(user.uid);
+            Ok(is_newest_of_two(whole, number, &name, &uid))
+        }
+        Record::Group(group) => {
+            let name = Key::Group(group.name.copy()?);
+            let gid = Key::Gid(group.gid);
+            Ok(is_newest_of_two(whole, number, &name, &gid))
+        }
+        _ => Ok(false),
+    }
+}
+
+fn is_newest_of_answered(
+    whole: Whole<'_>,
+    number: u64,
+    own: &Key,
+    answered: &Answered,
+) -> Result<bool, Memory>
+    requires { held.IsIndexed whole }
+    ensures { IfOk result (λ is. is ≡ list_any (λ key. needed.is_newest_of (held.past_of whole.entry) number key) (needed.keys_of_answer own.now answered.now)) }
+{
+    if is_newest_of(whole, number, own) {
+        return Ok(true);
+    }
+    match answered {
+        Answered::Found(found) => is_newest_of_record(whole, number, found),
+        Answered::Absent => Ok(false),
+    }
+}
+
+/// Whether an answer, where there is one, is the newest of a key of which it speaks.
+fn is_newest_of_some(whole: Whole<'_>, answer: Option<Standing<'_>>) -> Result<bool, Memory>
+    requires { held.IsIndexed whole }
+    ensures { IfOk result (λ is. is ≡ needed.is_newest_of_some (held.past_of whole.entry) (option_map seen.standing answer.entry)) }
+{
+    match answer {
+        Some(a) => is_newest_of_answered(whole, a.number, a.own, a.answered),
+        None => Ok(false),
+    }
+}
+
+fn is_newest_answer(whole: Whole<'_>, before: &[Entry], entry: &Entry) -> Result<bool, Memory>
+    requires { held.IsIndexed whole }
+    ensures { IfOk result (λ is. is ≡ needed.is_newest_answer (held.past_of whole.entry) (reverse before.now) entry.now) }
+{
+    is_newest_of_some(whole, answer_in(before, entry))
+}
+
+/// The marks of the entries that hold the newest answer of a key.
+pub fn newest_marks(alloc: Global, whole: Whole<'_>) -> Result<Vec<bool>, Memory>
+    requires { held.IsIndexed whole }
+    ensures { IfOk result (λ made. MarkNewest whole.entry.entries.now made.items) }
+{
+    let entries = whole.entries;
+    let mut made = Vec::new(alloc);
+    for place in 0..entries.len() {
+        made.push(is_newest_answer(whole, &entries[..place], &entries[place])?)?;
+    }
+    Ok(made)
+}

@@ -1,0 +1,131 @@
+// What is found once of a whole journal.
+ghost use Rattle.std.specs.Prelude.{◌≡◌, reverse, IfOk, None};
+ghost use Rattle.sd_rules.specs.declared.replies.Entry.{Entry};
+ghost use Rattle.sd_rules.specs.Needed as needed;
+ghost use Rattle.sd_rules.specs.Steps as steps;
+ghost use Rattle.sd_sieve.specs.Findings as findings;
+ghost use Rattle.sd_sieve.specs.Whole as held;
+
+use crate::answers::newest_marks;
+use crate::servers::{Falls, last_falls, last_online};
+use crate::tickets::{awaited, put};
+use crate::users::{Users, users_of};
+use crate::whole::{Whole, is_open_request};
+use sd_base::Memory;
+use sd_needs::requests::is_again;
+use sd_needs::servers::last_outage;
+use sd_rules::{Entry, Event, Reply};
+use std::alloc::Global;
+
+/// What is found of a whole journal before its entries are looked through.
+#[derive(Drop)]
+pub struct Findings {
+    /// Of each entry, whether it holds the newest answer of a key.
+    pub newest: Vec<bool>,
+    /// The numbers of the last askings of the open requests.
+    pub askings: Vec<u64>,
+    /// The numbers of the entries that the tickets that wait will look at.
+    pub awaited: Vec<u64>,
+    /// What is found of users.
+    pub users: Users,
+    /// The last fall of each server.
+    pub falls: Falls,
+    /// The last outage that nothing has ended.
+    pub outage: Option<u64>,
+    /// The last word that the directory can be reached.
+    pub online: Option<u64>,
+    /// The last end of the daemon.
+    pub stop: Option<u64>,
+}
+
+/// Whether an entry is an answer to the request that was replied Again.
+pub fn asks_again(event: &Event, reply: Reply, request: u64) -> bool
+    ensures { result ≡ steps.asks_again event.now reply request }
+{
+    match event {
+        Event::Answer(r, _) => *r == request && is_again(reply),
+        _ => false,
+    }
+}
+
+fn is_asking(entry: &Entry, request: u64) -> bool
+    ensures { result ≡ steps.is_asking entry.now request }
+{
+    entry.number == request || asks_again(&entry.event, entry.reply, request)
+}
+
+fn last_asking(entries: &[Entry], request: u64) -> Option<u64>
+    ensures { result ≡ needed.last_where (λ (x : Entry). steps.is_asking x request) (reverse entries.now) }
+{
+    for place in (0..entries.len()).rev() {
+        let entry = &entries[place];
+        if is_asking(entry, request) {
+            return Some(entry.number);
+        }
+    }
+    None
+}
+
+fn asking_of(whole: Whole<'_>, number: u64) -> Option<u64>
+    requires { held.IsIndexed whole }
+    ensures { result ≡ findings.asking_of (held.past_of whole.entry) number }
+{
+    if is_open_request(whole, number) {
+        last_asking(whole.entries, number)
+    } else {
+        None
+    }
+}
+
+/// The numbers of the last askings of the open requests.
+fn askings(alloc: Global, whole: Whole<'_>) -> Result<Vec<u64>, Memory>
+    requires { held.IsIndexed whole }
+    ensures { IfOk result (λ made. made.items ≡ findings.askings (held.past_of whole.entry) (held.past_of whole.entry)) }
+{
+    let entries = whole.entries;
+    let mut made = Vec::new(alloc);
+    for place in 0..entries.len() {
+        put(&mut made, asking_of(whole, entries[place].number))?;
+    }
+    Ok(made)
+}
+
+pub fn is_stop(event: &Event) -> bool
+    ensures { result ≡ needed.is_stop event.now }
+{
+    matches!(event, Event::Stop)
+}
+
+fn last_stop(entries: &[Entry]) -> Option<u64>
+    ensures { result ≡ needed.last_where (λ (x : Entry). needed.is_stop x.event) (reverse entries.now) }
+{
+    for place in (0..entries.len()).rev() {
+        let entry = &entries[place];
+        if is_stop(&entry.event) {
+            return Some(entry.number);
+        }
+    }
+    None
+}
+
+/// Finds what entries are looked at for.
+pub fn find(alloc: Global, whole: Whole<'_>) -> Result<Findings, Memory>
+    requires { held.IsIndexed whole }
+    ensures { IfOk result (λ found. findings.IsFound whole.entry.entries.now found) }
+{
+    let newest = newest_marks(alloc, whole)?;
+    let askings = askings(alloc, whole)?;
+    let awaited = awaited(alloc, whole)?;
+    let users = users_of(alloc, whole.entries)?;
+    let falls = last_falls(alloc, whole.entries)?;
+    Ok(Findings {
+        newest,
+        askings,
+        awaited,
+        users,
+        falls,
+        outage: last_outage(whole.entries),
+        online: last_online(whole.entries),
+        stop: last_stop(whole.entries),
+    })
+}

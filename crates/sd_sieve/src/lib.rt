@@ -1,0 +1,20 @@
+// A forget by the index of a journal: it goes over the entries a few times, and never over all of them for each.
+#![tactic(auto)]
+
+pub mod answers;
+pub mod findings;
+pub mod looked;
+pub mod marks;
+pub mod numbers;
+pub mod reads;
+pub mod servers;
+pub mod sieve;
+pub mod tickets;
+pub mod users;
+pub mod voids;
+pub mod whole;
+
+pub use sieve::{Sifted, sift};
+
+#[cfg(test)]
+mod tests;
