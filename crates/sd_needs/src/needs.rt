@@ -18,13 +18,14 @@ use sd_journal::requests::{is_open, waits_for};
 use sd_rules::{Entry, Event, Journal, Reply};
 use std::alloc::Global;
 
-fn is_stop(event: &Event) -> bool
+pub fn is_stop(event: &Event) -> bool
     ensures { result ≡ needed.is_stop event.now }
 {
     matches!(event, Event::Stop)
 }
 
-fn last_stop(entries: &[Entry]) -> Option<u64>
+/// The number of the last word to end the daemon.
+pub fn last_stop(entries: &[Entry]) -> Option<u64>
     ensures { result ≡ needed.last_where (λ (x : Entry). needed.is_stop x.event) (reverse entries.now) }
 {
     for place in (0..entries.len()).rev() {
@@ -100,7 +101,7 @@ fn is_tried(reply: Reply) -> bool
 }
 
 /// The request or attempt with whose leading entry an entry is read.
-fn read_with(event: &Event, reply: Reply) -> Option<u64>
+pub fn read_with(event: &Event, reply: Reply) -> Option<u64>
     ensures { result ≡ needed.read_with event.now reply }
 {
     match event {

@@ -26,13 +26,15 @@ fn asks_again(event: &Event, reply: Reply, request: u64) -> bool
     }
 }
 
+/// Whether an entry asks for a request, or asks again.
 fn is_asking(entry: &Entry, request: u64) -> bool
     ensures { result ≡ steps.is_asking entry.now request }
 {
     entry.number == request || asks_again(&entry.event, entry.reply, request)
 }
 
-fn last_asking(entries: &[Entry], request: u64) -> Option<u64>
+/// The number of the last asking of a request.
+pub fn last_asking(entries: &[Entry], request: u64) -> Option<u64>
     ensures { result ≡ needed.last_where (λ (x : Entry). steps.is_asking x request) (reverse entries.now) }
 {
     for place in (0..entries.len()).rev() {

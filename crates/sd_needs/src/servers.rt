@@ -58,7 +58,8 @@ pub fn is_fall_needed(all: &[Entry], entry: &Entry) -> bool
     }
 }
 
-fn last_online(entries: &[Entry]) -> Option<u64>
+/// The number of the last word that the directory can be reached.
+pub fn last_online(entries: &[Entry]) -> Option<u64>
     ensures { result ≡ needed.last_where (λ (x : Entry). servers.is_online x.event) (reverse entries.now) }
 {
     for place in (0..entries.len()).rev() {

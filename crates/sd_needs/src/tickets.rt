@@ -11,7 +11,7 @@ use sd_journal::requests::{closes, outcome_of, waits_for};
 use sd_rules::{Entry, Outcome, Reply};
 
 /// The number of the entry that closed a request.
-fn closing_of(entries: &[Entry], request: u64) -> Option<u64>
+pub fn closing_of(entries: &[Entry], request: u64) -> Option<u64>
     ensures { result ≡ needed.closing_of (reverse entries.now) request }
 {
     for place in (0..entries.len()).rev() {
@@ -24,7 +24,7 @@ fn closing_of(entries: &[Entry], request: u64) -> Option<u64>
 }
 
 /// The answer that an outcome names.
-fn answer_of_outcome(outcome: Outcome) -> Option<u64>
+pub fn answer_of_outcome(outcome: Outcome) -> Option<u64>
     ensures { result ≡ needed.answer_of_outcome outcome }
 {
     match outcome {

@@ -28,6 +28,7 @@ fn is_void_of(what: &What, event: &Event) -> bool
     }
 }
 
+/// The number of the last invalidation that names the same.
 fn last_void(entries: &[Entry], what: &What) -> Option<u64>
     ensures { result ≡ needed.last_where (λ (x : Entry). needed.is_void_of what.now x.event) (reverse entries.now) }
 {
@@ -40,13 +41,14 @@ fn last_void(entries: &[Entry], what: &What) -> Option<u64>
     None
 }
 
-fn is_last_void(all: &[Entry], what: &What, entry: &Entry) -> bool
+pub fn is_last_void(all: &[Entry], what: &What, entry: &Entry) -> bool
     ensures { result ≡ needed.is_last_void (reverse all.now) what.now entry.now }
 {
     is_void_of(what, &entry.event) && is_number(entry.number, last_void(all, what))
 }
 
-fn is_covered(what: &What, answer: Option<Standing<'_>>) -> bool
+/// Whether an invalidation covers an answer, where there is one.
+pub fn is_covered(what: &What, answer: Option<Standing<'_>>) -> bool
     ensures { result ≡ needed.is_covered what.now (option_map seen.standing answer.entry) }
 {
     match answer {

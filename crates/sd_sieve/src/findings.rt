@@ -7,14 +7,15 @@ ghost use Rattle.sd_sieve.specs.Findings as findings;
 ghost use Rattle.sd_sieve.specs.Whole as held;
 
 use crate::answers::newest_marks;
-use crate::servers::{Falls, last_falls, last_online};
+use crate::servers::{Falls, last_falls};
 use crate::tickets::{awaited, put};
 use crate::users::{Users, users_of};
 use crate::whole::{Whole, is_open_request};
 use sd_base::Memory;
-use sd_needs::requests::is_again;
-use sd_needs::servers::last_outage;
-use sd_rules::{Entry, Event, Reply};
+use sd_needs::needs::last_stop;
+use sd_needs::requests::last_asking;
+use sd_needs::servers::{last_online, last_outage};
+use sd_rules::Entry;
 use std::alloc::Global;
 
 /// What is found of a whole journal before its entries are looked through.
@@ -36,34 +37,6 @@ pub struct Findings {
     pub online: Option<u64>,
     /// The last end of the daemon.
     pub stop: Option<u64>,
-}
-
-/// Whether an entry is an answer to the request that was replied Again.
-pub fn asks_again(event: &Event, reply: Reply, request: u64) -> bool
-    ensures { result ≡ steps.asks_again event.now reply request }
-{
-    match event {
-        Event::Answer(r, _) => *r == request && is_again(reply),
-        _ => false,
-    }
-}
-
-fn is_asking(entry: &Entry, request: u64) -> bool
-    ensures { result ≡ steps.is_asking entry.now request }
-{
-    entry.number == request || asks_again(&entry.event, entry.reply, request)
-}
-
-fn last_asking(entries: &[Entry], request: u64) -> Option<u64>
-    ensures { result ≡ needed.last_where (λ (x : Entry). steps.is_asking x request) (reverse entries.now) }
-{
-    for place in (0..entries.len()).rev() {
-        let entry = &entries[place];
-        if is_asking(entry, request) {
-            return Some(entry.number);
-        }
-    }
-    None
 }
 
 fn asking_of(whole: Whole<'_>, number: u64) -> Option<u64>
@@ -88,24 +61,6 @@ fn askings(alloc: Global, whole: Whole<'_>) -> Result<Vec<u64>, Memory>
         put(&mut made, asking_of(whole, entries[place].number))?;
     }
     Ok(made)
-}
-
-pub fn is_stop(event: &Event) -> bool
-    ensures { result ≡ needed.is_stop event.now }
-{
-    matches!(event, Event::Stop)
-}
-
-fn last_stop(entries: &[Entry]) -> Option<u64>
-    ensures { result ≡ needed.last_where (λ (x : Entry). needed.is_stop x.event) (reverse entries.now) }
-{
-    for place in (0..entries.len()).rev() {
-        let entry = &entries[place];
-        if is_stop(&entry.event) {
-            return Some(entry.number);
-        }
-    }
-    None
 }
 
 /// Finds what entries are looked at for.

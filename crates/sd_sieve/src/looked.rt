@@ -8,13 +8,14 @@ ghost use Rattle.sd_sieve.specs.Marks.{MarkLooked};
 ghost use Rattle.sd_sieve.specs.Readings as readings;
 ghost use Rattle.sd_sieve.specs.Whole as held;
 
-use crate::findings::{Findings, is_stop};
+use crate::findings::Findings;
 use crate::marks::is_newest_at;
 use crate::servers::is_fall_needed;
 use crate::users::{is_login_needed, is_wrong_needed};
 use crate::voids::is_void_needed;
 use crate::whole::{Whole, is_open, waits_for};
 use sd_base::Memory;
+use sd_needs::needs::is_stop;
 use sd_needs::readings::{is_number, user_guessed, user_logged_in};
 use sd_needs::requests;
 use sd_needs::servers::is_online;

@@ -10,45 +10,10 @@ use crate::numbers::{Numbers, has, note};
 use indexmap::IndexSet;
 use sd_base::Memory;
 use sd_journal::past::is_closed;
+use sd_needs::needs::read_with;
 use sd_needs::requests::{is_again, is_last_again};
 use sd_rules::{Entry, Event, Reply};
 use std::alloc::Global;
-
-fn is_tried(reply: Reply) -> bool
-    ensures { result ≡ needed.is_tried reply }
-{
-    matches!(reply, Reply::Tried(_))
-}
-
-/// The request or attempt with whose leading entry an entry is read.
-fn read_with(event: &Event, reply: Reply) -> Option<u64>
-    ensures { result ≡ needed.read_with event.now reply }
-{
-    match event {
-        Event::Answer(request, _) => {
-            if is_closed(reply) || is_again(reply) {
-                Some(*request)
-            } else {
-                None
-            }
-        }
-        Event::LoginOnline(attempt, _) => {
-            if is_closed(reply) {
-                Some(*attempt)
-            } else {
-                None
-            }
-        }
-        Event::LoginTry(attempt, _, _) => {
-            if is_tried(reply) {
-                Some(*attempt)
-            } else {
-                None
-            }
-        }
-        _ => None,
-    }
-}
 
 /// The request of an answer that is read with it.
 fn answer_read(event: &Event, reply: Reply) -> Option<u64>

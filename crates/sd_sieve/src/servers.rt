@@ -78,16 +78,3 @@ pub fn is_fall_needed(falls: &Falls, entry: &Entry) -> bool
         _ => false,
     }
 }
-
-/// The last word that the directory can be reached.
-pub fn last_online(entries: &[Entry]) -> Option<u64>
-    ensures { result ≡ needed.last_where (λ (x : Entry). servers.is_online x.event) (reverse entries.now) }
-{
-    for place in (0..entries.len()).rev() {
-        let entry = &entries[place];
-        if is_online(&entry.event) {
-            return Some(entry.number);
-        }
-    }
-    None
-}

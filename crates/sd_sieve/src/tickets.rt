@@ -6,8 +6,9 @@ ghost use Rattle.sd_sieve.specs.Whole as held;
 
 use crate::whole::{Whole, waits_for};
 use sd_base::Memory;
-use sd_journal::requests::{closes, outcome_of};
-use sd_rules::{Entry, Outcome};
+use sd_journal::requests::outcome_of;
+use sd_needs::tickets::{answer_of_outcome, closing_of};
+use sd_rules::Entry;
 use std::alloc::Global;
 
 /// Puts a number at the end, where there is one.
@@ -18,32 +19,6 @@ pub fn put(numbers: &mut Vec<u64>, number: Option<u64>) -> Result<(), Memory>
         numbers.push(number)?;
     }
     Ok(())
-}
-
-/// The number of the entry that closed a request.
-fn closing_of(entries: &[Entry], request: u64) -> Option<u64>
-    ensures { result ≡ needed.closing_of (reverse entries.now) request }
-{
-    for place in (0..entries.len()).rev() {
-        let entry = &entries[place];
-        if closes(&entry.event, entry.reply, request) {
-            return Some(entry.number);
-        }
-    }
-    None
-}
-
-/// The answer that an outcome names.
-fn answer_of_outcome(outcome: Outcome) -> Option<u64>
-    ensures { result ≡ needed.answer_of_outcome outcome }
-{
-    match outcome {
-        Outcome::Found(number)
-        | Outcome::Absent(number)
-        | Outcome::Old(number, _)
-        | Outcome::OldGone(number, _) => Some(number),
-        _ => None,
-    }
 }
 
 fn closing_for(entries: &[Entry], request: Option<u64>) -> Option<u64>

@@ -10,53 +10,9 @@ ghost use Rattle.sd_sieve.specs.Marks.{MarkNewest};
 
 use crate::findings::Findings;
 use crate::marks::is_newest_at;
-use sd_journal::keys::covers;
-use sd_journal::past::{Standing, answer_in};
-use sd_needs::readings::is_number;
+use sd_journal::past::answer_in;
+use sd_needs::voids::{is_covered, is_last_void};
 use sd_rules::{Entry, Event, What};
-
-/// Whether two invalidations name the same.
-fn same_what(a: &What, b: &What) -> bool
-    ensures { result ≡ needed.same_what a.now b.now }
-{
-    a == b
-}
-
-fn is_void_of(what: &What, event: &Event) -> bool
-    ensures { result ≡ needed.is_void_of what.now event.now }
-{
-    match event {
-        Event::Void(other) => same_what(other, what),
-        _ => false,
-    }
-}
-
-fn last_void(entries: &[Entry], what: &What) -> Option<u64>
-    ensures { result ≡ needed.last_where (λ (x : Entry). needed.is_void_of what.now x.event) (reverse entries.now) }
-{
-    for place in (0..entries.len()).rev() {
-        let entry = &entries[place];
-        if is_void_of(what, &entry.event) {
-            return Some(entry.number);
-        }
-    }
-    None
-}
-
-fn is_last_void(all: &[Entry], what: &What, entry: &Entry) -> bool
-    ensures { result ≡ needed.is_last_void (reverse all.now) what.now entry.now }
-{
-    is_void_of(what, &entry.event) && is_number(entry.number, last_void(all, what))
-}
-
-fn is_covered(what: &What, answer: Option<Standing<'_>>) -> bool
-    ensures { result ≡ needed.is_covered what.now (option_map seen.standing answer.entry) }
-{
-    match answer {
-        Some(a) => covers(what, a.own, a.answered),
-        None => false,
-    }
-}
 
 fn has_below(number: u64, numbers: &[u64]) -> bool
     ensures { result ≡ findings.has_below number numbers.now }
