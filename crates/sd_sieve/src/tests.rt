@@ -77,8 +77,9 @@ fn keeps_what_is_needed(rt: HostRuntime) -> Result<(), Fail> {
     let mut entries = Vec::new(alloc);
     asked(alloc, &mut entries)?;
     voided(alloc, &mut entries)?;
-    let index = index_of(&rt, alloc, entries.as_slice())?;
-    let sifted = sift(alloc, entries.as_slice(), &index)?;
+    let all = entries.as_slice();
+    let index = index_of(&rt, alloc, all)?;
+    let sifted = sift(alloc, all, &index)?;
     assert!(rt; has_numbers(sifted.kept.as_slice(), &[1, 2, 4, 5, 6, 8]));
     assert!(rt; has_numbers(sifted.dropped.items(), &[3, 7]));
     Ok(())
