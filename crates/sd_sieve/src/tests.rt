@@ -6,7 +6,6 @@ use sd_index::Index;
 use sd_index::entries::numbers_fall;
 use sd_rules::{Answered, Entry, Event, Key, Record, Reply, User, What};
 use std::alloc::Global;
-use std::process::Abort;
 use std::test::Fail;
 
 fn text(alloc: Global, bytes: &[u8]) -> Result<Text, Memory> {
@@ -57,12 +56,6 @@ fn voided(alloc: Global, entries: &mut Vec<Entry>) -> Result<(), Memory> {
     put(entries, 8, asks(alloc)?, Reply::Lead(8))
 }
 
-fn index_of(rt: &impl Abort, alloc: Global, entries: &[Entry]) -> Result<Index, Memory> {
-    let falls = numbers_fall(9, entries);
-    assert!(rt; falls);
-    Index::of(alloc, Primed::new(b"secret"), entries)
-}
-
 fn has_numbers(entries: &[Entry], numbers: &[u64]) -> bool {
     entries.len() == numbers.len()
         && entries
@@ -78,7 +71,9 @@ fn keeps_what_is_needed(rt: HostRuntime) -> Result<(), Fail> {
     asked(alloc, &mut entries)?;
     voided(alloc, &mut entries)?;
     let all = entries.as_slice();
-    let index = index_of(&rt, alloc, all)?;
+    let falls = numbers_fall(9, all);
+    assert!(rt; falls);
+    let index = Index::of(alloc, Primed::new(b"secret"), all)?;
     let sifted = sift(alloc, all, &index)?;
     assert!(rt; has_numbers(sifted.kept.as_slice(), &[1, 2, 4, 5, 6, 8]));
     assert!(rt; has_numbers(sifted.dropped.items(), &[3, 7]));
