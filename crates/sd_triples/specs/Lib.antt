@@ -1,3 +1,4 @@
 pub mod Grammar
+pub mod Order
 pub mod Reading
 pub mod Matching

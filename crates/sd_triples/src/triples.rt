@@ -4,6 +4,7 @@ ghost use Rattle.sd_triples.specs.Grammar as grammar;
 
 use sd_base::{Copied, Items, Memory, Text};
 use std::alloc::Global;
+use std::cmp::Ordering;
 
 /// What a netgroup speaks of. An empty field stands for every host, user or domain.
 #[derive(Drop, Debug, PartialEq, Eq)]
@@ -20,6 +21,45 @@ impl Copied for Triple {
             user: self.user.copy()?,
             domain: self.domain.copy()?,
         })
+    }
+}
+
+/// By the bytes of the host, then of the user, then of the domain.
+impl Ord for Triple {
+    ghost use Rattle.sd_triples.specs.Order.{triple_cmp};
+    ghost use Rattle.std.specs.Cmp.Rules.{comparing};
+    ghost use Rattle.std.proofs.Common.{rules};
+
+    ghost cmp = { triple_cmp };
+
+    ghost total = { Prim.search (comparing, rules) };
+
+    ghost matches_partial_cmp = { Prim.search (comparing, rules) };
+
+    ghost matches_eq = { Prim.search (comparing, rules) };
+
+    fn cmp(&self, other: &Triple) -> Ordering {
+        self.host
+            .bytes()
+            .cmp(other.host.bytes())
+            .then(self.user.bytes().cmp(other.user.bytes()))
+            .then(self.domain.bytes().cmp(other.domain.bytes()))
+    }
+}
+
+impl PartialOrd for Triple {
+    ghost use Rattle.sd_triples.specs.Order.{triple_cmp};
+    ghost use Rattle.std.specs.Cmp.{partial_order_from_own_ties};
+    ghost use Rattle.std.specs.Cmp.Rules.{comparing};
+    ghost use Rattle.std.specs.Ordering.{as_partial_cmp};
+    ghost use Rattle.std.proofs.Common.{rules};
+
+    ghost partial_cmp = { as_partial_cmp triple_cmp };
+
+    ghost laws = { partial_order_from_own_ties (Prim.search (comparing, rules)) (Prim.search (comparing, rules)) };
+
+    fn partial_cmp(&self, other: &Triple) -> Option<Ordering> {
+        Some(self.cmp(other))
     }
 }
 

@@ -1,0 +1,92 @@
+-- What the texts of a configuration and of entries come to.
+use Rattle.std.specs.Prelude.{◌≡◌, ◌⊎◌, ℕ, ◌<◌, ◌≤◌, ◌++◌, List, length, codes, Result, Ok, Err}
+use Rattle.sd_conf.specs.declared.config.Config.{Config}
+use Rattle.sd_conf.specs.declared.ConfFault.{ConfFault}
+use Rattle.sd_conf.specs.declared.ConfFault.TheVariants as conf_faults
+use Rattle.sd_conf.specs.Config.{conf_of}
+use Rattle.sd_ldap.specs.declared.entry.DirEntry.{DirEntry}
+use Rattle.sd_ldif.specs.declared.LdifFault.{LdifFault}
+use Rattle.sd_ldif.specs.declared.LdifFault.TheVariants as ldif_faults
+use Rattle.sd_ldif.specs.Records.{ldif_of}
+use Rattle.sd_wire.specs.Forms.{numbered}
+use Rattle.sd_netgroup.specs.declared.inputs.Stop.{Stop}
+use Rattle.sd_netgroup.specs.declared.inputs.Stop.TheVariants as stops
+
+-- the most bytes of a configuration, 1 MiB, and of entries, 64 MiB
+abbrev pub conf_limit : ℕ
+conf_limit = 1048576
+
+abbrev pub ldif_limit : ℕ
+ldif_limit = 67108864
+
+-- a configuration is taken, and has this search base
+pub record IsBase (conf base : List ℕ) : Type 0 where
+  pub within : length conf ≤ conf_limit
+  pub config : Config
+  pub taken : conf_of conf ≡ Ok config
+  pub is : base ≡ config.base
+
+-- entries are taken
+pub record AreEntries (ldif : List ℕ) (entries : List DirEntry) : Type 0 where
+  pub within : length ldif ≤ ldif_limit
+  pub taken : ldif_of ldif ≡ Ok entries
+
+-- what is written where an input is refused: the refusal's name, and its value where it has one
+abbrev pub refused : List ℕ → List ℕ
+refused why = codes "refused " ++ (why ++ codes "\n")
+
+abbrev pub why_conf : ConfFault → List ℕ
+why_conf (conf_faults.BadLine n) = numbered (codes "BadLine ") n
+why_conf (conf_faults.NoSection n) = numbered (codes "NoSection ") n
+why_conf (conf_faults.BadValue n) = numbered (codes "BadValue ") n
+why_conf (conf_faults.ManyDomains n) = numbered (codes "ManyDomains ") n
+why_conf conf_faults.NoDomain = codes "NoDomain"
+why_conf (conf_faults.Missing option) = codes "Missing " ++ option
+why_conf conf_faults.Memory = codes ""
+
+abbrev pub why_ldif : LdifFault → List ℕ
+why_ldif (ldif_faults.BadLine n) = numbered (codes "BadLine ") n
+why_ldif (ldif_faults.BadBase64 n) = numbered (codes "BadBase64 ") n
+why_ldif (ldif_faults.NoDn n) = numbered (codes "NoDn ") n
+why_ldif ldif_faults.Memory = codes ""
+
+-- a configuration is refused, and this is written
+pub record IsConfRefused (conf output : List ℕ) : Type 0 where
+  pub within : length conf ≤ conf_limit
+  pub fault : ConfFault
+  pub refusal : conf_of conf ≡ Err fault
+  pub is : output ≡ refused (why_conf fault)
+
+-- entries are refused, and this is written
+pub record IsLdifRefused (ldif output : List ℕ) : Type 0 where
+  pub within : length ldif ≤ ldif_limit
+  pub fault : LdifFault
+  pub refusal : ldif_of ldif ≡ Err fault
+  pub is : output ≡ refused (why_ldif fault)
+
+-- why a configuration was not taken
+abbrev pub StopsConf : Stop → List ℕ → Type 0
+StopsConf stops.ReadFault conf = Unit {0}
+StopsConf stops.TooLong conf = conf_limit < length conf
+StopsConf (stops.Refused output) conf = IsConfRefused conf output
+StopsConf stops.Memory conf = Unit {0}
+
+-- why entries were not taken
+abbrev pub StopsLdif : Stop → List ℕ → Type 0
+StopsLdif stops.ReadFault ldif = Unit {0}
+StopsLdif stops.TooLong ldif = ldif_limit < length ldif
+StopsLdif (stops.Refused output) ldif = IsLdifRefused ldif output
+StopsLdif stops.Memory ldif = Unit {0}
+
+-- a text that was read whole is refused, or memory is wanting
+abbrev pub StopsReadConf : Stop → List ℕ → Type 0
+StopsReadConf stops.ReadFault conf = ⊥
+StopsReadConf stops.TooLong conf = ⊥
+StopsReadConf (stops.Refused output) conf = IsConfRefused conf output
+StopsReadConf stops.Memory conf = Unit {0}
+
+abbrev pub StopsReadLdif : Stop → List ℕ → Type 0
+StopsReadLdif stops.ReadFault ldif = ⊥
+StopsReadLdif stops.TooLong ldif = ⊥
+StopsReadLdif (stops.Refused output) ldif = IsLdifRefused ldif output
+StopsReadLdif stops.Memory ldif = Unit {0}
