@@ -1,5 +1,5 @@
 -- What was asked over a link that tells the directory behind it, and its entries.
-use Rattle.std.proofs.Common.{◌≡◌, ℕ, zero, suc, ◌+◌, ◌<◌, ◌≤◌, Bool, true, false, ◌||◌, List, [], ◌∷◌, ◌++◌, length, map, take, drop, slice_get, Option, Some, None, refl, sym, ap, ◌∙◌, subst, inl, inr, ◌⊎◌, append_assoc, append-nil, arith}
+use Rattle.std.proofs.Common.{◌≡◌, ℕ, zero, suc, Bool, ◌||◌, List, [], ◌∷◌, ◌++◌, length, map, take, drop, slice_get, Option, Some, None, refl, sym, ap, ◌∙◌, subst, append-nil}
 use Rattle.std.proofs.lemmas.Grind.{flat_map-append}
 use Rattle.std.specs.List.{flat_map}
 use Rattle.sd_ldap.specs.declared.entry.DirEntry.{DirEntry}
@@ -10,7 +10,7 @@ use Rattle.sd_dial.specs.declared.searched.Searched.{Searched}
 use Rattle.sd_dial.specs.declared.searched.Searched.TheVariants as searches
 use Rattle.sd_client.specs.Talk.{Talk}
 use Rattle.sd_nested.specs.Searches.{IsAnswer}
-use Rattle.sd_fetch.specs.Exchanging.{Telling, Exchange, Went, Goes, Gave, AllGave, IsLast}
+use Rattle.sd_fetch.specs.Exchanging.{Telling, Exchange, Went, Goes, Gave, AllGave}
 use Rattle.sd_fetch.specs.Looked.{given_of}
 use Rattle.sd_fetch.specs.Rounding as rounding
 use Rattle.sd_fetch.proofs.Answers.{IsPlain, answered}

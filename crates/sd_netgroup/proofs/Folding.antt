@@ -1,6 +1,5 @@
 -- Names and triples put one part after the other.
 use Rattle.std.proofs.Common.{◌≡◌, ℕ, List, [], ◌∷◌, ◌++◌, refl, ap, ◌∙◌}
-use Rattle.std.specs.List.{flat_map}
 use Rattle.std.proofs.lemmas.Grind.{flat_map-append}
 use Rattle.std.specs.BTreeSet.{insert_key}
 use Rattle.sd_triples.specs.declared.triples.Triple.{Triple}

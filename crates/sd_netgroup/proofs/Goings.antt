@@ -1,10 +1,8 @@
 -- Rounds put together.
-use Rattle.std.specs.Prelude.{IfOk}
-use Rattle.std.proofs.Common.{◌≡◌, ◌≢◌, ℕ, zero, suc, ◌+◌, ◌<◌, ◌≤◌, Bool, true, false, ◌||◌, List, [], ◌∷◌, ◌++◌, length, map, slice_get, Option, Some, None, Result, Ok, Err, refl, sym, ap, ◌∙◌, subst, inl, inr, ◌⊎◌, arith}
-use Rattle.std.proofs.lemmas.List.{map-append, append-nil}
+use Rattle.std.proofs.Common.{◌≡◌, ℕ, zero, suc, ◌+◌, ◌≤◌, Bool, true, false, ◌||◌, List, [], ◌∷◌, ◌++◌, length, slice_get, Some, None, Result, Ok, Err, refl, sym, ap, ◌∙◌, subst, inl, inr, arith}
+use Rattle.std.proofs.lemmas.List.{map-append}
 use Rattle.std.proofs.lemmas.Grind.{flat_map-append}
 use Rattle.std.specs.List.{flat_map}
-use Rattle.sd_base.specs.declared.Why.{Why}
 use Rattle.sd_ldap.specs.declared.entry.DirEntry.{DirEntry}
 use Rattle.sd_dial.specs.declared.searched.Searched.{Searched}
 use Rattle.sd_dial.specs.declared.searched.Searched.TheVariants as searches
@@ -20,7 +18,7 @@ use Rattle.sd_netgroup.specs.Named.{members_of, texts_of, spelled_by}
 use Rattle.sd_netgroup.specs.Order.{with_triples}
 use Rattle.sd_netgroup.specs.Rounds.{with_names, Course, beginning, further, called_in, is_some}
 use Rattle.sd_netgroup.specs.Searches.{net_search}
-use Rattle.sd_netgroup.specs.Asking.{Query, exchange_of, exchanges_of, called_by, course_by, AreDue, EndsBy, IsWhole}
+use Rattle.sd_netgroup.specs.Asking.{Query, exchange_of, exchanges_of, called_by, course_by, AreDue, EndsBy}
 use Rattle.sd_netgroup.specs.Stepping.{Heard, Tried, Shows, Takes, EndsAs, AskedFor, Steps, Going, Gathered}
 use Rattle.sd_netgroup.proofs.Folding.{spelled_more}
 

@@ -6,3 +6,5 @@ pub mod Sent
 pub mod Goings
 pub mod Answered
 pub mod Nets
+pub mod Looks
+pub mod Tools

@@ -1,5 +1,5 @@
 -- A netgroup over a link that tells the directory behind it.
-use Rattle.std.proofs.Common.{◌≡◌, ℕ, zero, suc, ◌+◌, ◌<◌, ◌≤◌, Bool, true, false, List, [], ◌∷◌, ◌++◌, length, map, Option, Some, None, Result, Ok, Err, refl, sym, ap, ◌∙◌, subst, inl, inr, ◌⊎◌, append-nil, arith}
+use Rattle.std.proofs.Common.{◌≡◌, ℕ, ◌≤◌, true, false, List, [], ◌∷◌, length, Option, Some, None, Ok, Err, refl, sym, ap, ◌∙◌, subst, inl, inr, ◌⊎◌, append-nil}
 use Rattle.std.specs.List.{flat_map}
 use Rattle.std.specs.List.Sorted.{IsStrictlySortedBy}
 use Rattle.sd_base.specs.declared.Why.{Why}
@@ -14,7 +14,6 @@ use Rattle.sd_fetch.specs.Rounding as rounding
 use Rattle.sd_fetch.specs.Told.{first_failure, IsLimit}
 use Rattle.sd_fetch.proofs.Walk.{Stands, walked, walk_failed, walk_code}
 use Rattle.sd_triples.specs.declared.triples.Triple.{Triple}
-use Rattle.sd_triples.specs.Grammar.{Spells}
 use Rattle.sd_triples.specs.Reading.{triple_in}
 use Rattle.sd_triples.specs.Order.{triple_cmp}
 use Rattle.sd_triples.proofs.Spelled.{spelled_in, in_spelled}
@@ -26,7 +25,7 @@ use Rattle.sd_nested.specs.declared.searcher.Stop.TheVariants as stops
 use Rattle.sd_nested.proofs.In.{in_flat, in_from}
 use Rattle.sd_netgroup.specs.Named.{named_in, texts_of, listed, spelled_by}
 use Rattle.sd_netgroup.specs.Order.{with_triples}
-use Rattle.sd_netgroup.specs.Paths.{In, IsEnd, HasTriple, AreTriplesOf}
+use Rattle.sd_netgroup.specs.Paths.{In, AreTriplesOf}
 use Rattle.sd_netgroup.specs.Rounds.{Course, beginning, is_some, course_in, searches_in}
 use Rattle.sd_netgroup.specs.Asking.{Query, exchanges_of, course_by, AreDue, EndsBy, stop_of, AreSpelled, IsWhole, Gives, Asked}
 use Rattle.sd_netgroup.specs.Stepping.{Shows, Gathered, NettedBy, netted_of}
@@ -167,8 +166,7 @@ module _ {L : Type 0} (t : Telling L) (base name : List ℕ) (old new : Talk L) 
   told_so : (result : Netted) → EndsBy (stop_of result) (exchanges_of base queries) → Gives (course_by (beginning name) queries) (length queries) result
       → IsToldNetting b (length old.received) old.next base name result (t.refuses new.link) (t.ends new.link) (t.coming new.link)
   told_so (nets.Found triples) ends g =
-      let a = alike ends in
-      (
+      let a = alike ends in (
         within ends g.0,
         named_some b.entries base name (length queries) (whole_in ends g.0) (sym a.some ∙ g.1),
         triples_of b.entries base name (length queries) (whole_in ends g.0) triples (subst (λ (texts : List (List ℕ)). AreSpelled texts triples) a.texts g.2),

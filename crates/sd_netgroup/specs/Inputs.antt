@@ -1,5 +1,5 @@
 -- What the texts of a configuration and of entries come to.
-use Rattle.std.specs.Prelude.{◌≡◌, ◌⊎◌, ℕ, ◌<◌, ◌≤◌, ◌++◌, List, length, codes, Result, Ok, Err}
+use Rattle.std.specs.Prelude.{◌≡◌, ℕ, ◌<◌, ◌≤◌, ◌++◌, List, length, codes, Ok, Err}
 use Rattle.sd_conf.specs.declared.config.Config.{Config}
 use Rattle.sd_conf.specs.declared.ConfFault.{ConfFault}
 use Rattle.sd_conf.specs.declared.ConfFault.TheVariants as conf_faults

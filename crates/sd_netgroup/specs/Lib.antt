@@ -9,3 +9,4 @@ pub mod Told
 pub mod Words
 pub mod Printing
 pub mod Inputs
+pub mod Endings

@@ -1,5 +1,5 @@
 -- Triples in their order.
-use Rattle.std.specs.Prelude.{List, [], fold}
+use Rattle.std.specs.Prelude.{List, fold}
 use Rattle.std.specs.BTreeSet.{insert_key}
 use Rattle.sd_triples.specs.declared.triples.Triple.{Triple}
 use Rattle.sd_triples.specs.Order.{triple_cmp}

@@ -71,11 +71,7 @@ fn put_triple(alloc: Global, triples: &mut BTreeSet<Triple>, text: &Text) -> Res
 }
 
 #[tactic(auto, using(crate::proofs::Folding::folding))]
-fn put_texts(
-    alloc: Global,
-    triples: &mut BTreeSet<Triple>,
-    texts: &[Text],
-) -> Result<(), Memory>
+fn put_texts(alloc: Global, triples: &mut BTreeSet<Triple>, texts: &[Text]) -> Result<(), Memory>
     ensures { OnOk result (triples.new.keys ≡ with_triples triples.old.keys (spelled_by texts.now)) }
 {
     for text in texts {

@@ -2,6 +2,7 @@
 #![tactic(auto)]
 
 mod asking;
+mod directory;
 mod finds;
 mod inputs;
 mod named;
@@ -9,6 +10,9 @@ mod order;
 mod printing;
 mod rounds;
 mod searches;
+mod tool;
 mod words;
 
 pub use asking::{Netted, netgroup};
+pub use sd_triples::{Triple, TripleFault, Triples, in_netgroup, read_triple};
+pub use tool::{DIRECTORY_LIMIT, NO_NETGROUP, REFUSED, netgroup_tool};

@@ -58,11 +58,7 @@ fn has_member(triples: &Triples, member: &Member) -> bool
 }
 
 /// What is printed of the triples of a netgroup: a line each, or whether a member is in it.
-pub fn printed(
-    alloc: Global,
-    triples: &Triples,
-    member: &Option<Member>,
-) -> Result<Vec<u8>, Memory>
+pub fn printed(alloc: Global, triples: &Triples, member: &Option<Member>) -> Result<Vec<u8>, Memory>
     ensures { IfOk result (λ output. output.items ≡ printing.printed triples.now member.now) }
 {
     let mut out = Vec::new(alloc);

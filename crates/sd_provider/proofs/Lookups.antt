@@ -64,7 +64,7 @@ last_fails : (before : List Exchange) (x : Exchange) (old new : Talk Standing) �
 last_fails [] x old new g gave well = ap (λ (talk : Talk Standing). talk.failed) (sym g.2) ∙ g.1.fails well
 last_fails (y ∷ before) x old new g gave well = last_fails before x g.0 new g.2 gave.1 (g.1.fails well ∙ gave_well y.searched gave.0)
 
-last_failed : (s : Searched) (exchanges : List Exchange) (old new : Talk Standing) → Goes telling old exchanges new → IsLast s exchanges → old.failed ≡ None → new.failed ≡ failure_by_search s
+pub last_failed : (s : Searched) (exchanges : List Exchange) (old new : Talk Standing) → Goes telling old exchanges new → IsLast s exchanges → old.failed ≡ None → new.failed ≡ failure_by_search s
 last_failed s exchanges old new g last well = last_fails last.before (record { search = last.search; searched = s }) old new (subst (λ (xs : List Exchange). Goes telling old xs new) last.are g) last.gave well
 
 link_failed : (exchanges : List Exchange) (old new : Talk Standing) → Goes telling old exchanges new → FailedBy whys.Link exchanges → old.failed ≡ None → new.failed ≡ Some whys.Link

@@ -8,4 +8,5 @@ mod plain;
 mod room;
 
 pub use binding::bound_at;
-pub use looking::fetched_at;
+pub use looking::{fetched_at, short_directory};
+pub use plain::PlainLink;

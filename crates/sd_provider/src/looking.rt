@@ -116,7 +116,7 @@ fn in_memory(fetched: Fetched) -> Result<Fetched, Memory>
 
 /// The directory of these entries, where each takes less than 4 GiB in a message; longer ones count as want of
 /// memory.
-fn short_directory(alloc: Global, entries: &[DirEntry]) -> Result<Directory, Memory>
+pub fn short_directory(alloc: Global, entries: &[DirEntry]) -> Result<Directory, Memory>
     ensures kept { IfOk result (λ directory. directory ≡ kept entries.now) }
     ensures own { IfOk result (λ directory. have_own_dns directory ≡ true) }
     ensures short { IfOk result (λ directory. AreShort directory) }

@@ -1,8 +1,7 @@
-use Rattle.std.proofs.Common.{◌≡◌, ℕ, Bool, List, Some, Result, Ok, Err, sym, ap, ◌∙◌, subst, slice_get}
+use Rattle.std.proofs.Common.{Bool, List, Result, Ok, Err, sym, ap, ◌∙◌, subst}
 use Rattle.std.proofs.lemmas.Result.{err_from_is_err_and}
 use Rattle.sd_ldap.specs.declared.entry.DirEntry.{DirEntry}
 use Rattle.sd_nested.specs.declared.searcher.Stop.{Stop}
-use Rattle.sd_nested.specs.declared.searcher.Stop.TheVariants as stops
 use Rattle.sd_fetch.specs.Exchanging.{Telling}
 use Rattle.sd_netgroup.specs.Stepping.{Tried, Steps}
 use Rattle.sd_netgroup.proofs.Goings.{step_on, step_stopped, step_starved}
