@@ -2,7 +2,6 @@
 ghost use Rattle.std.specs.Prelude.{◌≡◌, ℕ, slice_get, IfOk};
 ghost use Rattle.sd_ldap.specs.Values.{search_value};
 ghost use Rattle.sd_ldap.specs.Sound.{IsSoundSearch};
-ghost use Rattle.sd_nested.specs.Directions.{HandsOn};
 ghost use Rattle.sd_fetch.specs.Exchanging.{Telling, Exchange, Went};
 ghost use Rattle.sd_netgroup.specs.Stepping.{Tried, Steps, Gathered};
 
@@ -27,20 +26,7 @@ fn ask<L: DirectoryLink>(client: &mut Client<L>, request: &SearchRequest) -> Sea
     search(client, request)
 }
 
-/// The entries that a search came to; no such object is none.
-fn given(alloc: Global, searched: Searched) -> Result<DirEntries, Stop>
-    ensures { HandsOn result searched }
-{
-    match searched {
-        Searched::Entries(entries) => Ok(entries),
-        Searched::Code(32) => Ok(DirEntries::new(alloc)),
-        Searched::Code(code) => Err(Stop::Code(code)),
-        Searched::Failed(why) => Err(Stop::Failed(why)),
-        Searched::Memory => Err(Stop::Memory),
-    }
-}
-
-/// Searches for the netgroups of a name.
+/// The entries that a search for a name came to; no such object is none.
 fn find<L: DirectoryLink>(
     alloc: Global,
     client: &mut Client<L>,
@@ -50,8 +36,13 @@ fn find<L: DirectoryLink>(
     ensures { Tried (record { sent = L.sent; asked = L.asked; received = L.received; coming = L.coming; answer = L.answer; behind = L.behind; faults = L.faults; refuses = L.refuses; ends = L.ends }) base.now name.now client.old result client.new }
 {
     let request = net_search(alloc, base, name)?;
-    let searched = ask(client, &request);
-    given(alloc, searched)
+    match ask(client, &request) {
+        Searched::Entries(entries) => Ok(entries),
+        Searched::Code(32) => Ok(DirEntries::new(alloc)),
+        Searched::Code(code) => Err(Stop::Code(code)),
+        Searched::Failed(why) => Err(Stop::Failed(why)),
+        Searched::Memory => Err(Stop::Memory),
+    }
 }
 
 /// The name at a place among those found.
