@@ -16,7 +16,7 @@ use std::alloc::Global;
 use std::process::ExitCode;
 
 /// The longest input, in bytes.
-const LIMIT: usize = 1 << 16;
+const LIMIT: usize = 1 << 23;
 
 /// What all cases of a text write.
 fn play_all(alloc: Global, text: &[u8]) -> Result<Vec<u8>, Memory> {
