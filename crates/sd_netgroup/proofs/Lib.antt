@@ -1,0 +1,10 @@
+pub mod Folding
+pub mod Names
+pub mod Ends
+pub mod Ordered
+pub mod Sent
+pub mod Goings
+pub mod Answered
+pub mod Nets
+pub mod Looks
+pub mod Tools

@@ -1,0 +1,12 @@
+pub mod Named
+pub mod Searches
+pub mod Order
+pub mod Paths
+pub mod Rounds
+pub mod Asking
+pub mod Stepping
+pub mod Told
+pub mod Words
+pub mod Printing
+pub mod Inputs
+pub mod Endings
