@@ -10,6 +10,8 @@ pub struct Counts {
     pub entries: usize,
     /// How many of them the last forget left; at first, how many the core came with.
     pub left: usize,
+    /// How many logins came with a hash to be kept, since the core is shared.
+    pub hashes: u64,
 }
 
 impl Counts {

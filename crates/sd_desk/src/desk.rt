@@ -403,7 +403,11 @@ impl Desk {
             salts: _,
         } = self;
         let DeskSeat { seat, counts: _ } = seat;
-        let SharedCore { core, left: _ } = turn.close(seat)?;
+        let SharedCore {
+            core,
+            left: _,
+            hashes: _,
+        } = turn.close(seat)?;
         Ok(core)
     }
 }

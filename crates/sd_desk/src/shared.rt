@@ -9,7 +9,7 @@ ghost use Rattle.sd_desk.specs.Steps.{HasBoundedTexts, WasFull};
 use crate::counts::Counts;
 use sd_base::Memory;
 use sd_core::Core;
-use sd_rules::{Entry, Event, Given, Journal, Refused, Settings, StepFault};
+use sd_rules::{Entry, Event, Given, Journal, LoginResult, Refused, Settings, StepFault};
 use sd_turn::Chronicle;
 
 /// What no step and no forget changes. Contracts alone read it: no value is made.
@@ -25,6 +25,8 @@ pub struct SharedCore {
     pub(crate) core: Core,
     /// How many entries the last forget left; at first, how many the core came with.
     pub(crate) left: usize,
+    /// How many logins came with a hash to be kept.
+    pub(crate) hashes: u64,
     ghost above: { 0 < core.next },
 }
 
@@ -57,6 +59,11 @@ impl Chronicle for SharedCore {
     ghost follows_through = { λ b x y z p q. reaches_through (daemon_of b x) (daemon_of b y) (daemon_of b z) p q };
 }
 
+/// Whether an event is a login that a server took, with a hash to be kept.
+fn brings_hash(event: &Event) -> bool {
+    matches!(event, Event::LoginOnline(_, LoginResult::Right(Some(_))))
+}
+
 impl SharedCore {
     /// A core that nothing was forgotten of yet.
     pub(crate) fn new(core: Core) -> SharedCore
@@ -65,7 +72,11 @@ impl SharedCore {
         // A number of its own is above 0.
         core.next_number();
         let left = core.journal().len();
-        SharedCore { core, left }
+        SharedCore {
+            core,
+            left,
+            hashes: 0,
+        }
     }
 
     /// What a seat that gives this core back knows of its journal.
@@ -73,11 +84,13 @@ impl SharedCore {
         ensures next { result.next ≡ self.now.core.next }
         ensures entries { result.entries ≡ length self.now.core.past }
         ensures left { result.left ≡ self.now.left }
+        ensures hashes { result.hashes ≡ self.now.hashes }
     {
         Counts {
             next: self.core.next_number(),
             entries: self.core.journal().len(),
             left: self.left,
+            hashes: self.hashes,
         }
     }
 
@@ -95,6 +108,7 @@ impl SharedCore {
         ensures texts { IfOk result (HasBoundedTexts event) }
         ensures reached { reaching.Reaches self.old.core self.new.core }
     {
+        self.hashes = self.hashes.saturating_add(u64::from(brings_hash(&event)));
         // The core's texts are bounded, and so are those of what it gives.
         self.core.next_number();
         self.core.step(now, event)
