@@ -146,7 +146,7 @@ fn enter<H: Host>(
     ensures opening { TellsOpening (is_some store.entry) (H.stored host.old) (H.stored host.new) (is_store_fault result) }
     ensures later { H.door_faults host.old ≤ H.door_faults host.new }
 {
-    let (core, keeper) = open_store(alloc, store, &config, host)?;
+    let (core, keeper) = open_store(alloc, store, &config, &salts, host)?;
     let (keeper, doors) = listen(socket, keeper, host)?;
     Ok(Begun {
         config,

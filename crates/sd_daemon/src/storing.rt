@@ -9,20 +9,21 @@ use crate::host::Host;
 use crate::refusals::Stop;
 use sd_conf::Config;
 use sd_core::{Core, OpenFault};
+use sd_creds::Salts;
 use sd_keeper::{Keeper, KeeperFault, LoadFault, load};
 use sd_rules::Rows;
 use sd_server::open_core;
 use std::alloc::Global;
 
 /// A core with these rows, by the settings of a configuration.
-fn begin_with(alloc: Global, config: &Config, rows: Rows) -> Result<Core, Stop>
+fn begin_with(alloc: Global, config: &Config, salts: &Salts, rows: Rows) -> Result<Core, Stop>
     ensures opened { IfOk result (λ core. core ≡ kept.opened config.now.settings rows) }
     ensures good { OnOk result (kept.bad_row rows ≡ None) }
     ensures settings { IfOk result (λ core. core.settings ≡ config.now.settings) }
     ensures servable { OnOk result (is_servable config.now ≡ true) }
     ensures says { IfErr result (SaysOfRows rows) }
 {
-    match open_core(alloc, config, rows) {
+    match open_core(alloc, config, salts, rows) {
         Ok(core) => Ok(core),
         Err(OpenFault::BadRows(place)) => Err(Stop::BadStore(place)),
         Err(OpenFault::Memory) => Err(Stop::Memory),
@@ -30,7 +31,12 @@ fn begin_with(alloc: Global, config: &Config, rows: Rows) -> Result<Core, Stop>
 }
 
 /// A core with the rows of a keeper.
-fn begin_from<K: Keeper>(alloc: Global, config: &Config, keeper: &mut K) -> Result<Core, Stop>
+fn begin_from<K: Keeper>(
+    alloc: Global,
+    config: &Config,
+    salts: &Salts,
+    keeper: &mut K,
+) -> Result<Core, Stop>
     ensures begun { IfOk result (λ core. IfSome (K.told keeper.old) (λ blobs. BeginsBy config.now.settings blobs core)) }
     ensures settings { IfOk result (λ core. core.settings ≡ config.now.settings) }
     ensures servable { OnOk result (is_servable config.now ≡ true) }
@@ -40,7 +46,7 @@ fn begin_from<K: Keeper>(alloc: Global, config: &Config, keeper: &mut K) -> Resu
     ensures cause { is_store_fault result ≡ true → Rose (K.faults keeper.old) (K.faults keeper.new) }
 {
     match load(alloc, keeper) {
-        Ok(rows) => begin_with(alloc, config, rows),
+        Ok(rows) => begin_with(alloc, config, salts, rows),
         Err(LoadFault::Failed) => Err(Stop::StoreFault),
         Err(LoadFault::BadRow(place)) => Err(Stop::BadStore(place)),
         Err(LoadFault::BadVersion(version)) => Err(Stop::BadStore(version)),
@@ -53,6 +59,7 @@ fn open_at<H: Host>(
     alloc: Global,
     path: &str,
     config: &Config,
+    salts: &Salts,
     host: &mut H,
 ) -> Result<(Core, H::Store), Stop>
     ensures begun { IfOk result (λ made. IfSome (H.stored host.old).blobs (λ blobs. BeginsBy config.now.settings blobs made.0)) }
@@ -69,7 +76,7 @@ fn open_at<H: Host>(
         Err(KeeperFault::Failed) => return Err(Stop::StoreFault),
         Err(KeeperFault::Memory) => return Err(Stop::Memory),
     };
-    match begin_from(alloc, config, &mut keeper) {
+    match begin_from(alloc, config, salts, &mut keeper) {
         Ok(core) => Ok((core, keeper)),
         Err(stop) => {
             host.done_keeper(keeper);
@@ -83,6 +90,7 @@ pub fn open_store<H: Host>(
     alloc: Global,
     store: Option<&str>,
     config: &Config,
+    salts: &Salts,
     host: &mut H,
 ) -> Result<(Core, Option<H::Store>), Stop>
     ensures begun { IfOk result (λ made. is_some store.entry ≡ true → IfSome (H.stored host.old).blobs (λ blobs. BeginsBy config.now.settings blobs made.0)) }
@@ -96,11 +104,11 @@ pub fn open_store<H: Host>(
 {
     match store {
         Some(path) => {
-            let (core, keeper) = open_at(alloc, path, config, host)?;
+            let (core, keeper) = open_at(alloc, path, config, salts, host)?;
             Ok((core, Some(keeper)))
         }
         None => {
-            let core = begin_with(alloc, config, Rows::new(alloc))?;
+            let core = begin_with(alloc, config, salts, Rows::new(alloc))?;
             Ok((core, None))
         }
     }

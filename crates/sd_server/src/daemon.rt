@@ -33,7 +33,12 @@ fn is_within_bounds(config: &Config) -> bool
 
 /// A core with kept rows, by the settings of a configuration; without rows its journal is empty. No configuration that is read
 /// is too large, and no keeper keeps too many rows: either is answered as want of memory.
-pub fn open_core(alloc: Global, config: &Config, rows: Rows) -> Result<Core, OpenFault>
+pub fn open_core(
+    alloc: Global,
+    config: &Config,
+    salts: &Salts,
+    rows: Rows,
+) -> Result<Core, OpenFault>
     ensures opened { IfOk result (λ core. core ≡ kept.opened config.now.settings rows) }
     ensures good { OnOk result (kept.bad_row rows ≡ None) }
     ensures servable { OnOk result (is_servable config.now ≡ true) }
@@ -42,7 +47,9 @@ pub fn open_core(alloc: Global, config: &Config, rows: Rows) -> Result<Core, Ope
     if !is_within_bounds(config) || u32::try_from(rows.len()).is_err() {
         return Err(OpenFault::Memory);
     }
-    Core::open(alloc, config.settings.copy()?, rows)
+    // No attempt has the number 0, so nobody is shown this salt: names that come from outside are hashed with it.
+    let secret = salts.salt(0);
+    Core::open_keyed(alloc, config.settings.copy()?, rows, secret.as_slice())
 }
 
 /// How serving ended, by why no more clients are let in and by what became of the last flush: a door that failed is told in

@@ -176,7 +176,9 @@ where
 {
     match doors.accept() {
         Ok(Some((source, sink))) => {
-            welcome(rt, alloc, scope, desk, seat, running, source, sink, equipment);
+            welcome(
+                rt, alloc, scope, desk, seat, running, source, sink, equipment,
+            );
             Ok(())
         }
         Ok(None) => Err(ServeEnd::NoneToCome),
@@ -220,9 +222,16 @@ where
         hashes: seat.counts().hashes,
     };
     for _ in rt.forever() {
-        if let Err(end) =
-            let_next_in(rt, alloc, scope, desk, seat, running, doors, &mut equipment)
-        {
+        if let Err(end) = let_next_in(
+            rt,
+            alloc,
+            scope,
+            desk,
+            seat,
+            running,
+            doors,
+            &mut equipment,
+        ) {
             return end;
         }
         if look_after(rt, alloc, desk, seat, keeper, clock.now(), &mut last) {
