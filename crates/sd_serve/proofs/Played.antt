@@ -18,10 +18,18 @@ by_pair : (a : Bool) (P : Type 0) → cond a kinds.Serve kinds.Unknown ≡ kinds
 by_pair true P e = cc
 by_pair false P e = cc
 
+by_form : (a : Bool) (P : Type 0) → cond a kinds.Netgroup kinds.Unknown ≡ kinds.Scenario → P
+by_form true P e = cc
+by_form false P e = cc
+
 by_rest : (word : List ℕ) (rest : List (List ℕ)) (P : Type 0) → kind_by_rest word rest ≡ kinds.Scenario → P
 by_rest word [] P e = cc
 by_rest word (second ∷ []) P e = by_pair (same_name word (codes "serve")) P e
-by_rest word (second ∷ third ∷ rest) P e = cc
+by_rest word (ldif ∷ name ∷ []) P e = by_form (same_name word (codes "netgroup")) P e
+by_rest word (ldif ∷ name ∷ host ∷ []) P e = cc
+by_rest word (ldif ∷ name ∷ host ∷ user ∷ []) P e = cc
+by_rest word (ldif ∷ name ∷ host ∷ user ∷ domain ∷ []) P e = by_form (same_name word (codes "innetgr")) P e
+by_rest word (ldif ∷ name ∷ host ∷ user ∷ domain ∷ more ∷ rest) P e = cc
 
 by_tool : (a b : Bool) (k : Kind) (P : Type 0) → (k ≡ kinds.Scenario → P) → cond a kinds.Query (cond b kinds.Cache k) ≡ kinds.Scenario → P
 by_tool true b k P f e = cc

@@ -19,8 +19,14 @@ kind_of_word word =
 abbrev pub kind_of_pair : List ℕ → Kind
 kind_of_pair word = if same_name word (codes "serve") then kinds.Serve else kinds.Unknown
 
+-- the same of the word of a tool that asks of a netgroup
+abbrev pub kind_by_form : List ℕ → List ℕ → Kind
+kind_by_form word form = if same_name word form then kinds.Netgroup else kinds.Unknown
+
 abbrev pub kind_by_rest : List ℕ → List (List ℕ) → Kind
 kind_by_rest word (second ∷ []) = kind_of_pair word
+kind_by_rest word (ldif ∷ name ∷ []) = kind_by_form word (codes "netgroup")
+kind_by_rest word (ldif ∷ name ∷ host ∷ user ∷ domain ∷ []) = kind_by_form word (codes "innetgr")
 kind_by_rest word _ = kinds.Unknown
 
 -- a word with a path behind it, and the words behind that
@@ -65,6 +71,6 @@ abbrev pub is_stop : List (List ℕ) → Bool
 is_stop (word ∷ []) = same_name word (codes "stop")
 is_stop _ = false
 
--- the statuses of the program: 0, 2 to 10, 13 and 14
+-- the statuses of the program: 0, 2 to 10, and 13 to 16
 abbrev pub IsStatus : ℕ → Type 0
-IsStatus status = (status ≢ 1) × ((status ≤ 10) ⊎ ((status ≡ 13) ⊎ (status ≡ 14)))
+IsStatus status = (status ≢ 1) × ((status ≤ 10) ⊎ ((13 ≤ status) × (status ≤ 16)))

@@ -5,6 +5,8 @@ pub const HELP: &[u8] = b"\
 scenario                    play the scenario that standard input gives
 idmap                       number the SIDs that standard input gives
 serve CONF SOCKET           serve clients on a Unix socket, by a configuration
+netgroup CONF LDIF NAME     the triples of a netgroup in the entries of an LDIF
+innetgr CONF LDIF NAME HOST USER DOMAIN     whether these are in a netgroup; * asks nothing of a field
 query SOCKET user NAME      look a user up
 query SOCKET uid N          look a user up by number
 query SOCKET group NAME     look a group up

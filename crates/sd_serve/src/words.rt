@@ -9,6 +9,7 @@ pub enum Kind {
     Version,
     Scenario,
     Idmap,
+    Netgroup,
     Query,
     Cache,
     Serve,
@@ -42,12 +43,24 @@ fn kind_of_pair(word: &[u8]) -> Kind
     }
 }
 
+fn kind_by_form(word: &[u8], form: &[u8]) -> Kind
+    ensures { result ≡ forms.kind_by_form word.now form.now }
+{
+    if word == form {
+        Kind::Netgroup
+    } else {
+        Kind::Unknown
+    }
+}
+
 /// What a word asks for that is no tool's.
 fn kind_by_rest(word: &[u8], rest: &[String]) -> Kind
     ensures { result ≡ forms.kind_by_rest word.now (map string_bytes rest.now) }
 {
     match rest {
         [_second] => kind_of_pair(word),
+        [_ldif, _name] => kind_by_form(word, b"netgroup"),
+        [_ldif, _name, _host, _user, _domain] => kind_by_form(word, b"innetgr"),
         _ => Kind::Unknown,
     }
 }
