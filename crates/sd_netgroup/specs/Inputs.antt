@@ -1,5 +1,5 @@
 -- What the texts of a configuration and of entries come to.
-use Rattle.std.specs.Prelude.{◌≡◌, ℕ, ◌<◌, ◌≤◌, ◌++◌, List, length, codes, Ok, Err}
+use Rattle.std.specs.Prelude.{◌≡◌, ℕ, ◌<◌, ◌≤◌, ◌++◌, List, [], length, codes, Ok, Err}
 use Rattle.sd_conf.specs.declared.config.Config.{Config}
 use Rattle.sd_conf.specs.declared.ConfFault.{ConfFault}
 use Rattle.sd_conf.specs.declared.ConfFault.TheVariants as conf_faults
@@ -31,38 +31,59 @@ pub record AreEntries (ldif : List ℕ) (entries : List DirEntry) : Type 0 where
   pub within : length ldif ≤ ldif_limit
   pub taken : ldif_of ldif ≡ Ok entries
 
--- what is written where an input is refused: the refusal's name, and its value where it has one
-abbrev pub refused : List ℕ → List ℕ
-refused why = codes "refused " ++ (why ++ codes "\n")
+-- what is written where an input is refused: the refusal's name, and a space and its value where it has one
+abbrev pub refused : List ℕ → List ℕ → List ℕ
+refused name value = codes "refused " ++ (name ++ (value ++ codes "\n"))
 
-abbrev pub why_conf : ConfFault → List ℕ
-why_conf (conf_faults.BadLine n) = numbered (codes "BadLine ") n
-why_conf (conf_faults.NoSection n) = numbered (codes "NoSection ") n
-why_conf (conf_faults.BadValue n) = numbered (codes "BadValue ") n
-why_conf (conf_faults.ManyDomains n) = numbered (codes "ManyDomains ") n
-why_conf conf_faults.NoDomain = codes "NoDomain"
-why_conf (conf_faults.Missing option) = codes "Missing " ++ option
-why_conf conf_faults.Memory = codes ""
+abbrev pub conf_name : ConfFault → List ℕ
+conf_name (conf_faults.BadLine n) = codes "BadLine"
+conf_name (conf_faults.NoSection n) = codes "NoSection"
+conf_name (conf_faults.BadValue n) = codes "BadValue"
+conf_name (conf_faults.ManyDomains n) = codes "ManyDomains"
+conf_name conf_faults.NoDomain = codes "NoDomain"
+conf_name (conf_faults.Missing option) = codes "Missing"
+conf_name conf_faults.Memory = codes "Memory"
 
-abbrev pub why_ldif : LdifFault → List ℕ
-why_ldif (ldif_faults.BadLine n) = numbered (codes "BadLine ") n
-why_ldif (ldif_faults.BadBase64 n) = numbered (codes "BadBase64 ") n
-why_ldif (ldif_faults.NoDn n) = numbered (codes "NoDn ") n
-why_ldif ldif_faults.Memory = codes ""
+abbrev pub conf_value : ConfFault → List ℕ
+conf_value (conf_faults.BadLine n) = numbered (codes " ") n
+conf_value (conf_faults.NoSection n) = numbered (codes " ") n
+conf_value (conf_faults.BadValue n) = numbered (codes " ") n
+conf_value (conf_faults.ManyDomains n) = numbered (codes " ") n
+conf_value conf_faults.NoDomain = []
+conf_value (conf_faults.Missing option) = codes " " ++ option
+conf_value conf_faults.Memory = []
+
+abbrev pub conf_refused : ConfFault → List ℕ
+conf_refused fault = refused (conf_name fault) (conf_value fault)
+
+abbrev pub ldif_name : LdifFault → List ℕ
+ldif_name (ldif_faults.BadLine n) = codes "BadLine"
+ldif_name (ldif_faults.BadBase64 n) = codes "BadBase64"
+ldif_name (ldif_faults.NoDn n) = codes "NoDn"
+ldif_name ldif_faults.Memory = codes "Memory"
+
+abbrev pub ldif_value : LdifFault → List ℕ
+ldif_value (ldif_faults.BadLine n) = numbered (codes " ") n
+ldif_value (ldif_faults.BadBase64 n) = numbered (codes " ") n
+ldif_value (ldif_faults.NoDn n) = numbered (codes " ") n
+ldif_value ldif_faults.Memory = []
+
+abbrev pub ldif_refused : LdifFault → List ℕ
+ldif_refused fault = refused (ldif_name fault) (ldif_value fault)
 
 -- a configuration is refused, and this is written
 pub record IsConfRefused (conf output : List ℕ) : Type 0 where
   pub within : length conf ≤ conf_limit
   pub fault : ConfFault
   pub refusal : conf_of conf ≡ Err fault
-  pub is : output ≡ refused (why_conf fault)
+  pub is : output ≡ conf_refused fault
 
 -- entries are refused, and this is written
 pub record IsLdifRefused (ldif output : List ℕ) : Type 0 where
   pub within : length ldif ≤ ldif_limit
   pub fault : LdifFault
   pub refusal : ldif_of ldif ≡ Err fault
-  pub is : output ≡ refused (why_ldif fault)
+  pub is : output ≡ ldif_refused fault
 
 -- why a configuration was not taken
 abbrev pub StopsConf : Stop → List ℕ → Type 0

@@ -39,54 +39,86 @@ impl From<Memory> for Stop {
     }
 }
 
-fn push_why_conf(alloc: Global, out: &mut Vec<u8>, fault: &ConfFault) -> Result<(), Memory>
-    ensures { OnOk result (out.new.items ≡ out.old.items ++ inputs.why_conf fault.now) }
+/// The name of a refusal of a configuration.
+fn conf_name(fault: &ConfFault) -> &'static [u8]
+    ensures { result.now ≡ inputs.conf_name fault.now }
 {
     match fault {
-        ConfFault::BadLine(line) => push_numbered(alloc, out, b"BadLine ", u64::from(*line)),
-        ConfFault::NoSection(line) => push_numbered(alloc, out, b"NoSection ", u64::from(*line)),
-        ConfFault::BadValue(line) => push_numbered(alloc, out, b"BadValue ", u64::from(*line)),
-        ConfFault::ManyDomains(count) => {
-            push_numbered(alloc, out, b"ManyDomains ", u64::from(*count))
-        }
-        ConfFault::NoDomain => push_bytes(out, b"NoDomain"),
-        ConfFault::Missing(option) => {
-            push_bytes(out, b"Missing ")?;
-            push_bytes(out, option.bytes())
-        }
-        ConfFault::Memory => Ok(()),
+        ConfFault::BadLine(_) => b"BadLine",
+        ConfFault::NoSection(_) => b"NoSection",
+        ConfFault::BadValue(_) => b"BadValue",
+        ConfFault::ManyDomains(_) => b"ManyDomains",
+        ConfFault::NoDomain => b"NoDomain",
+        ConfFault::Missing(_) => b"Missing",
+        ConfFault::Memory => b"Memory",
     }
 }
 
-fn conf_refused(alloc: Global, fault: &ConfFault) -> Result<Text, Memory>
-    ensures { IfOk result (λ text. text ≡ inputs.refused (inputs.why_conf fault.now)) }
-{
-    let mut text = Vec::new(alloc);
-    push_bytes(&mut text, b"refused ")?;
-    push_why_conf(alloc, &mut text, fault)?;
-    push_bytes(&mut text, b"\n")?;
-    Text::from_bytes(alloc, &text)
-}
-
-fn push_why_ldif(alloc: Global, out: &mut Vec<u8>, fault: LdifFault) -> Result<(), Memory>
-    ensures { OnOk result (out.new.items ≡ out.old.items ++ inputs.why_ldif fault) }
+fn ldif_name(fault: LdifFault) -> &'static [u8]
+    ensures { result.now ≡ inputs.ldif_name fault }
 {
     match fault {
-        LdifFault::BadLine(line) => push_numbered(alloc, out, b"BadLine ", u64::from(line)),
-        LdifFault::BadBase64(line) => push_numbered(alloc, out, b"BadBase64 ", u64::from(line)),
-        LdifFault::NoDn(line) => push_numbered(alloc, out, b"NoDn ", u64::from(line)),
+        LdifFault::BadLine(_) => b"BadLine",
+        LdifFault::BadBase64(_) => b"BadBase64",
+        LdifFault::NoDn(_) => b"NoDn",
+        LdifFault::Memory => b"Memory",
+    }
+}
+
+/// The value of a refusal of a configuration, behind a space, where it has one.
+fn push_conf_value(alloc: Global, out: &mut Vec<u8>, fault: &ConfFault) -> Result<(), Memory>
+    ensures { OnOk result (out.new.items ≡ out.old.items ++ inputs.conf_value fault.now) }
+{
+    match fault {
+        ConfFault::BadLine(number)
+        | ConfFault::NoSection(number)
+        | ConfFault::BadValue(number)
+        | ConfFault::ManyDomains(number) => push_numbered(alloc, out, b" ", u64::from(*number)),
+        ConfFault::Missing(option) => {
+            push_bytes(out, b" ")?;
+            push_bytes(out, option.bytes())
+        }
+        ConfFault::NoDomain | ConfFault::Memory => Ok(()),
+    }
+}
+
+fn push_ldif_value(alloc: Global, out: &mut Vec<u8>, fault: LdifFault) -> Result<(), Memory>
+    ensures { OnOk result (out.new.items ≡ out.old.items ++ inputs.ldif_value fault) }
+{
+    match fault {
+        LdifFault::BadLine(line) | LdifFault::BadBase64(line) | LdifFault::NoDn(line) => {
+            push_numbered(alloc, out, b" ", u64::from(line))
+        }
         LdifFault::Memory => Ok(()),
     }
 }
 
-fn ldif_refused(alloc: Global, fault: LdifFault) -> Result<Text, Memory>
-    ensures { IfOk result (λ text. text ≡ inputs.refused (inputs.why_ldif fault)) }
+/// What is written of a refusal.
+fn refused(alloc: Global, name: &[u8], value: &[u8]) -> Result<Text, Memory>
+    ensures { IfOk result (λ text. text ≡ inputs.refused name.now value.now) }
 {
     let mut text = Vec::new(alloc);
     push_bytes(&mut text, b"refused ")?;
-    push_why_ldif(alloc, &mut text, fault)?;
+    push_bytes(&mut text, name)?;
+    push_bytes(&mut text, value)?;
     push_bytes(&mut text, b"\n")?;
     Text::from_bytes(alloc, &text)
+}
+
+fn conf_refused(alloc: Global, fault: &ConfFault) -> Result<Text, Memory>
+    ensures { IfOk result (λ text. text ≡ inputs.conf_refused fault.now) }
+{
+    let mut value = Vec::new(alloc);
+    push_conf_value(alloc, &mut value, fault)?;
+    refused(alloc, conf_name(fault), &value)
+}
+
+fn ldif_refused(alloc: Global, fault: LdifFault) -> Result<Text, Memory>
+    ensures { IfOk result (λ text. text ≡ inputs.ldif_refused fault) }
+{
+    let mut value = Vec::new(alloc);
+    push_ldif_value(alloc, &mut value, fault)?;
+    refused(alloc, ldif_name(fault), &value)
 }
 
 /// The search base of a configuration.

@@ -25,7 +25,7 @@ pub fn cut_word(text: &[u8]) -> (&[u8], &[u8]) {
 }
 
 /// The lines up to the next words, and what comes from there on.
-pub fn cut_case(text: &[u8]) -> (&[u8], &[u8]) {
+pub fn cut_text(text: &[u8]) -> (&[u8], &[u8]) {
     let mut is_first = true;
     for place in 0..text.len() {
         if is_first && text[place..].starts_with(b"== ") {

@@ -9,14 +9,14 @@
 mod lines;
 mod play;
 
-use lines::{cut_case, cut_line};
+use lines::{cut_line, cut_text};
 use play::Play;
 use sd_base::{Memory, ReaderSource, WriterSink, read_all, write_all};
 use std::alloc::Global;
 use std::process::ExitCode;
 
 /// The longest input, in bytes.
-const LIMIT: usize = 1 << 16;
+const LIMIT: usize = 1 << 23;
 
 /// What all cases of a text write.
 fn play_all(alloc: Global, text: &[u8]) -> Result<Vec<u8>, Memory> {
@@ -28,7 +28,7 @@ fn play_all(alloc: Global, text: &[u8]) -> Result<Vec<u8>, Memory> {
             break;
         }
         let (words, rest) = cut_line(left);
-        let (case, rest) = cut_case(rest);
+        let (case, rest) = cut_text(rest);
         let play = Play::of(words, case, entries);
         entries = play.entries();
         play.print(alloc, &mut out)?;
