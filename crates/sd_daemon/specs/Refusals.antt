@@ -3,6 +3,8 @@ use Rattle.std.specs.Prelude.{◌≡◌, ◌⊎◌, ◌<◌, ◌≤◌, ◌++◌
 use Rattle.sd_conf.specs.Config.{conf_of, Answers}
 use Rattle.sd_conf.specs.declared.ConfFault.{ConfFault}
 use Rattle.sd_conf.specs.declared.ConfFault.TheVariants as faults
+use Rattle.sd_daemon.specs.declared.refusals.Stop.{Stop}
+use Rattle.sd_daemon.specs.declared.refusals.Stop.TheVariants as stops
 use Rattle.sd_wire.specs.Forms.{numbered}
 
 -- the most bytes that a configuration has: 1 MiB
@@ -34,6 +36,34 @@ why_refused faults.NoDomain = codes "NoDomain"
 why_refused (faults.Missing option) = codes "Missing " ++ option
 why_refused faults.Memory = codes ""
 
--- done; a source, or the sink, failed; want of memory; the configuration is too long; the doors failed; it is refused
+-- why a configuration is not taken; the store and the doors are not tried then
+abbrev pub IsOfConfig : Stop → Type 0
+IsOfConfig stops.ReadFault = Unit {0}
+IsOfConfig stops.TooLong = Unit {0}
+IsOfConfig (stops.Refused fault) = Unit {0}
+IsOfConfig stops.Memory = Unit {0}
+IsOfConfig stop = ⊥
+
+-- what is tried behind the configuration did not go: the store, the doors
+abbrev pub IsBehindConfig : Stop → Type 0
+IsBehindConfig stops.StoreFault = Unit {0}
+IsBehindConfig (stops.BadStore n) = Unit {0}
+IsBehindConfig stops.DoorFault = Unit {0}
+IsBehindConfig stop = ⊥
+
+-- likewise, or memory was wanting
+abbrev pub IsNoneOfConfig : Stop → Type 0
+IsNoneOfConfig stops.Memory = Unit {0}
+IsNoneOfConfig stops.StoreFault = Unit {0}
+IsNoneOfConfig (stops.BadStore n) = Unit {0}
+IsNoneOfConfig stops.DoorFault = Unit {0}
+IsNoneOfConfig stop = ⊥
+
+-- by its status the daemon tried the store or the doors: done, the store failed or is none, the doors failed
+abbrev pub TriesBehindConfig : ℕ → Type 0
+TriesBehindConfig status = (status ≡ 0) ⊎ ((status ≡ 9) ⊎ ((status ≡ 11) ⊎ (status ≡ 12)))
+
+-- done; a source, or the sink, failed; want of memory; the configuration is too long; the doors failed; it is refused; the store
+-- failed; it is none
 abbrev pub IsServeStatus : ℕ → Type 0
-IsServeStatus status = (status ≡ 0) ⊎ ((status ≡ 3) ⊎ ((status ≡ 4) ⊎ ((status ≡ 7) ⊎ ((status ≡ 8) ⊎ ((status ≡ 9) ⊎ (status ≡ 10))))))
+IsServeStatus status = (status ≡ 0) ⊎ ((status ≡ 3) ⊎ ((status ≡ 4) ⊎ ((7 ≤ status) × (status ≤ 12))))

@@ -6,8 +6,9 @@ mod host;
 mod notices;
 mod refusals;
 mod serving;
+mod storing;
 
-pub use beginning::{DOOR_FAULT, REFUSED};
+pub use beginning::{BAD_STORE, DOOR_FAULT, REFUSED, STORE_FAULT};
 pub use host::Host;
 pub use notices::Notice;
 pub use serving::serve;

@@ -1,7 +1,7 @@
 //! What the daemon tells its operator.
 use crate::refusals::Stop;
-use sd_base::Memory;
 use sd_conf::ConfFault;
+use sd_keeper::KeeperFault;
 use sd_server::ServeEnd;
 use std::fmt;
 use std::fmt::Display;
@@ -15,10 +15,16 @@ pub enum Notice {
     Refused(Option<u32>),
     NotRead,
     TooLong,
+    /// The store could not be opened, or read.
+    NotLoaded,
+    /// The store is none.
+    NoStore,
     NoDoors,
     NoMemory,
     /// No more clients are let in, and each session has ended.
     Ended(ServeEnd),
+    /// Likewise, and the store did not get what was learned last.
+    NotStored,
 }
 
 fn line_of(fault: &ConfFault) -> Option<u32> {
@@ -32,10 +38,11 @@ fn line_of(fault: &ConfFault) -> Option<u32> {
 
 impl Notice {
     /// The line for how serving ended.
-    pub fn of_end(served: &Result<ServeEnd, Memory>) -> Notice {
+    pub fn of_end(served: &Result<ServeEnd, KeeperFault>) -> Notice {
         match served {
             Ok(end) => Notice::Ended(*end),
-            Err(Memory) => Notice::NoMemory,
+            Err(KeeperFault::Failed) => Notice::NotStored,
+            Err(KeeperFault::Memory) => Notice::NoMemory,
         }
     }
 
@@ -45,6 +52,8 @@ impl Notice {
             Stop::ReadFault => Notice::NotRead,
             Stop::TooLong => Notice::TooLong,
             Stop::Refused(fault) => Notice::Refused(line_of(fault)),
+            Stop::StoreFault => Notice::NotLoaded,
+            Stop::BadStore(_) => Notice::NoStore,
             Stop::DoorFault => Notice::NoDoors,
             Stop::Memory => Notice::NoMemory,
         }
@@ -69,9 +78,12 @@ impl Display for Notice {
             Notice::Refused(None) => f.write_str("the configuration is refused"),
             Notice::NotRead => f.write_str("the configuration or the seed could not be read"),
             Notice::TooLong => f.write_str("the configuration has more than 1 MiB"),
+            Notice::NotLoaded => f.write_str("the store could not be opened or read"),
+            Notice::NoStore => f.write_str("the store is none, and is left as it is"),
             Notice::NoDoors => f.write_str("the sockets could not be made"),
             Notice::NoMemory => f.write_str("memory is wanting"),
             Notice::Ended(end) => f.write_str(end_text(*end)),
+            Notice::NotStored => f.write_str("ended: the store could not be written"),
         }
     }
 }

@@ -1,6 +1,7 @@
 //! Why serving did not begin, and what is written of it.
 ghost use Rattle.std.specs.Prelude.{◌≡◌, ◌++◌, IfOk, OnOk};
 ghost use Rattle.sd_daemon.specs.Refusals as refusals;
+ghost use Rattle.sd_daemon.specs.Stores.{bad_store};
 
 use sd_base::Memory;
 use sd_conf::ConfFault;
@@ -15,6 +16,11 @@ pub enum Stop {
     /// The configuration has more than 1 MiB.
     TooLong,
     Refused(ConfFault),
+    /// The store could not be opened, or read.
+    StoreFault,
+    /// The store is none: the place of the first blob that is the bytes of no row, or of the first row that is against the rules,
+    /// or the unknown version of a head.
+    BadStore(u32),
     DoorFault,
     Memory,
 }
@@ -45,6 +51,16 @@ pub fn refused_text(alloc: Global, fault: &ConfFault) -> Result<Vec<u8>, Memory>
     let mut text = Vec::new(alloc);
     push_bytes(&mut text, b"refused ")?;
     push_why(alloc, &mut text, fault)?;
+    push_bytes(&mut text, b"\n")?;
+    Ok(text)
+}
+
+/// What is written where a store is none.
+pub fn bad_store_text(alloc: Global, number: u32) -> Result<Vec<u8>, Memory>
+    ensures { IfOk result (λ text. text.items ≡ bad_store number) }
+{
+    let mut text = Vec::new(alloc);
+    push_numbered(alloc, &mut text, b"bad store ", u64::from(number))?;
     push_bytes(&mut text, b"\n")?;
     Ok(text)
 }

@@ -1,12 +1,14 @@
 // The host that the daemon serves.
 ghost use Rattle.std.specs.Prelude.{◌≡◌, false, None};
 
+use crate::keeper::WatchedKeeper;
 use sd_base::{Copied, Memory, Source, SourceFailed};
 use sd_clock::{Clock as Moments, OpenGate};
 use sd_conf::{Config, Server, ServerList};
 use sd_daemon::{Host, Notice};
 use sd_dial::Dialer;
 use sd_doors::{DoorFailed, Doors};
+use sd_keeper::KeeperFault;
 use sd_link::LinkFailed;
 use sd_server::Equipment;
 use sd_tcp::{TcpDialer, TcpLink};
@@ -184,20 +186,27 @@ impl<F: Read + Drop> Source for FileSource<F> {
 #[derive(Drop)]
 pub struct SystemHost<'r, R> {
     rt: &'r R,
+    /// What the store's keeper is made with.
+    system: &'r HostRuntime,
     health: &'r Health,
     source_faults: u64,
     door_faults: u64,
     gave: bool,
+    store_faults: u64,
+    store_failed: bool,
 }
 
 impl<'r, R> SystemHost<'r, R> {
-    pub fn new(rt: &'r R, health: &'r Health) -> SystemHost<'r, R> {
+    pub fn new(rt: &'r R, system: &'r HostRuntime, health: &'r Health) -> SystemHost<'r, R> {
         SystemHost {
             rt,
+            system,
             health,
             source_faults: 0,
             door_faults: 0,
             gave: false,
+            store_faults: 0,
+            store_failed: false,
         }
     }
 }
@@ -213,6 +222,8 @@ where
 
     type Tools = SystemTools<'r, R>;
 
+    type Store = WatchedKeeper<'r>;
+
     ghost text_at = { λ _ _. None };
 
     ghost source_faults = { λ h. h.source_faults };
@@ -222,6 +233,8 @@ where
     ghost gave = { λ h. h.gave };
 
     ghost ended = { λ _. false };
+
+    ghost stored = { λ h. record { blobs = None; faults = h.store_faults; failed = h.store_failed } };
 
     fn file(&mut self, path: &str) -> Result<FileSource<R::File>, SourceFailed> {
         match File::open(self.rt, path) {
@@ -248,6 +261,22 @@ where
                 Err(SourceFailed)
             }
         }
+    }
+
+    fn keeper(&mut self, path: &str) -> Result<WatchedKeeper<'r>, KeeperFault> {
+        let made = WatchedKeeper::open(self.system, path);
+        self.store_failed = matches!(made, Err(KeeperFault::Failed));
+        if self.store_failed {
+            self.store_faults = self.store_faults.saturating_add(1);
+        }
+        made
+    }
+
+    fn done_keeper(&mut self, keeper: WatchedKeeper<'r>) {
+        if keeper.faults() > 0 {
+            self.store_faults = self.store_faults.saturating_add(1);
+        }
+        self.store_failed = keeper.has_failed();
     }
 
     fn listen(&mut self, path: &str) -> Result<UnixDoors<'r, R>, DoorFailed> {

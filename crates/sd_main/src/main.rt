@@ -2,6 +2,7 @@
 #![tactic(auto)]
 
 mod host;
+mod keeper;
 mod outside;
 
 use host::{Health, SystemHost};
@@ -35,7 +36,7 @@ fn main(rt: HostRuntime) -> ExitCode {
     let mut sink = WriterSink::new(rt.stdout());
     let mut outside = SystemOutside::new(&rt);
     let health = Health::new();
-    let mut host = SystemHost::new(&rt, &health);
+    let mut host = SystemHost::new(&rt, &rt, &health);
     ExitCode::from(program(
         &rt,
         rt.alloc(),

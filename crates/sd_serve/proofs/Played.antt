@@ -21,7 +21,8 @@ by_pair false P e = cc
 by_rest : (word : List ℕ) (rest : List (List ℕ)) (P : Type 0) → kind_by_rest word rest ≡ kinds.Scenario → P
 by_rest word [] P e = cc
 by_rest word (second ∷ []) P e = by_pair (same_name word (codes "serve")) P e
-by_rest word (second ∷ third ∷ rest) P e = cc
+by_rest word (second ∷ third ∷ []) P e = by_pair (same_name word (codes "serve")) P e
+by_rest word (second ∷ third ∷ fourth ∷ rest) P e = cc
 
 by_tool : (a b : Bool) (k : Kind) (P : Type 0) → (k ≡ kinds.Scenario → P) → cond a kinds.Query (cond b kinds.Cache k) ≡ kinds.Scenario → P
 by_tool true b k P f e = cc

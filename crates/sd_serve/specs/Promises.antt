@@ -6,7 +6,8 @@ use Rattle.sd_base.specs.Causes.{Rose}
 use Rattle.sd_base.specs.Written.{AppendsFront}
 use Rattle.sd_conf.specs.declared.ConfFault.{ConfFault}
 use Rattle.sd_daemon.specs.Refusals as refusals
-use Rattle.sd_daemon.specs.declared.beginning.TheConstants.{DOOR_FAULT, REFUSED}
+use Rattle.sd_daemon.specs.Stores as stores
+use Rattle.sd_daemon.specs.declared.beginning.TheConstants.{BAD_STORE, DOOR_FAULT, REFUSED, STORE_FAULT}
 use Rattle.sd_idmap.specs.Endings as ids
 use Rattle.sd_idmap.specs.Lines as id_lines
 use Rattle.sd_idmap.specs.Transcript as id_script
@@ -115,14 +116,20 @@ pub record Voids (rest : List (List ℕ)) (told told' : replies.Told) (held held
   pub bad_reply : status ≡ BAD_REPLY
       → endings.OfOptions (requests_of rest) (λ requests. replies.FindsBadReply requests told told' held held')
 
--- `serve`, by what its host tells: clients are served by the configuration at a path.
+-- `serve`, by what its host tells: clients are served by the configuration at a path, with the rows of a store where one is given.
 pub record Serves {H W : Type 0} (text_at : H → List ℕ → Option (List ℕ)) (source_faults door_faults : H → ℕ) (gave ended : H → Bool)
-    (held : W → Option (List ℕ)) (conf : List ℕ) (host host' : H) (sink sink' : W) (status : ℕ) : Type 0 where
+    (store : H → stores.Stored) (held : W → Option (List ℕ)) (conf : List ℕ) (has_store : Bool) (host host' : H) (sink sink' : W) (status : ℕ) : Type 0 where
   pub status_is : refusals.IsServeStatus status
   -- the doors gave a connection, or answered that none will come
   pub done : status ≡ DONE → (gave host' ≡ true) ⊎ (ended host' ≡ true)
-  -- the configuration is within 1 MiB, and was taken
-  pub taken : (status ≡ DONE) ⊎ (status ≡ DOOR_FAULT) → refusals.IsTaken (text_at host conf)
+  -- the configuration is within 1 MiB, and was taken, where the store or the doors were tried; so was the store where the doors were
+  pub taken : refusals.TriesBehindConfig status → refusals.IsTaken (text_at host conf)
+  pub loaded : (status ≡ DONE) ⊎ (status ≡ DOOR_FAULT) → has_store ≡ true → IfSome (store host).blobs stores.IsStore
+  -- the store holds the rows of a journal that the daemon reached, which began with what the store held
+  pub stored : status ≡ DONE → has_store ≡ true → stores.HoldsJournal (text_at host conf) (store host).blobs (store host').blobs
+  -- whatever the status, it holds that or what it held; without a store given it is not touched
+  pub kept : has_store ≡ true → ((store host').blobs ≡ (store host).blobs) ⊎ stores.HoldsJournal (text_at host conf) (store host).blobs (store host').blobs
+  pub unasked : has_store ≡ false → store host' ≡ store host
   -- the configuration or the seed could not be read
   pub read_fault : status ≡ READ_FAULT → Rose (source_faults host) (source_faults host')
   -- the configuration has more than 1 MiB, and `too long` was written
@@ -130,5 +137,11 @@ pub record Serves {H W : Type 0} (text_at : H → List ℕ → Option (List ℕ)
   -- the configuration is refused for a reason, which was written
   pub refused : status ≡ REFUSED → (fault : ConfFault) × refusals.IsRefused fault (text_at host conf)
       × Appends (held sink) (held sink') (refusals.refused (refusals.why_refused fault))
+  -- the store is none, and `bad store n` was written
+  pub bad_store : status ≡ BAD_STORE → (n : ℕ) × IfSome (store host).blobs (stores.IsNoStore n) × Appends (held sink) (held sink') (stores.bad_store n)
+  -- the making of the store's keeper, or the last call on it, failed, and `store fault` was written; where that failed, no other status
+  -- is told but those of doors, sink and memory
+  pub store_fault : status ≡ STORE_FAULT → stores.Fails (store host) (store host') × Appends (held sink) (held sink') (codes "store fault\n")
+  pub failing : (store host).failed ≡ false → (store host').failed ≡ true → stores.IsFailingStatus status
   -- the doors could not be made, or failed, and `door fault` was written
   pub door_fault : status ≡ DOOR_FAULT → Rose (door_faults host) (door_faults host') × Appends (held sink) (held sink') (codes "door fault\n")

@@ -1,5 +1,5 @@
 -- Which words ask for what.
-use Rattle.std.specs.Prelude.{◌≡◌, ◌≢◌, ◌≤◌, ◌⊎◌, ℕ, Bool, false, codes, List, [], ◌∷◌, None, if◌then◌else◌}
+use Rattle.std.specs.Prelude.{◌≡◌, ◌≢◌, ◌≤◌, ◌⊎◌, ℕ, Bool, true, false, codes, List, [], ◌∷◌, None, if◌then◌else◌}
 use Rattle.sd_rules.specs.Keys.{same_name}
 use Rattle.sd_tools.specs.Options.{requests_of}
 use Rattle.sd_tools.specs.Queries.{query_of}
@@ -15,12 +15,13 @@ kind_of_word word =
     else if same_name word (codes "--version") then kinds.Version
     else kinds.Unknown
 
--- a word with two more behind it
+-- a word with two or three more behind it
 abbrev pub kind_of_pair : List ℕ → Kind
 kind_of_pair word = if same_name word (codes "serve") then kinds.Serve else kinds.Unknown
 
 abbrev pub kind_by_rest : List ℕ → List (List ℕ) → Kind
 kind_by_rest word (second ∷ []) = kind_of_pair word
+kind_by_rest word (second ∷ third ∷ []) = kind_of_pair word
 kind_by_rest word _ = kinds.Unknown
 
 -- a word with a path behind it, and the words behind that
@@ -49,6 +50,11 @@ abbrev pub first_of : List (List ℕ) → List ℕ
 first_of [] = []
 first_of (first ∷ rest) = first
 
+-- there is another word behind the first: the path of a store
+abbrev pub has_second : List (List ℕ) → Bool
+has_second (first ∷ second ∷ rest) = true
+has_second _ = false
+
 -- the words behind a tool have no form
 abbrev pub LacksForm : Kind → List (List ℕ) → Type 0
 LacksForm kinds.Query rest = query_of rest ≡ None
@@ -65,6 +71,6 @@ abbrev pub is_stop : List (List ℕ) → Bool
 is_stop (word ∷ []) = same_name word (codes "stop")
 is_stop _ = false
 
--- the statuses of the program: 0, 2 to 10, 13 and 14
+-- the statuses of the program: 0, and 2 to 14
 abbrev pub IsStatus : ℕ → Type 0
-IsStatus status = (status ≢ 1) × ((status ≤ 10) ⊎ ((status ≡ 13) ⊎ (status ≡ 14)))
+IsStatus status = (status ≢ 1) × (status ≤ 14)

@@ -4,13 +4,13 @@ ghost use Rattle.std.specs.Io.KnownBytes.{Appends};
 ghost use Rattle.sd_base.specs.Causes.{Rose};
 ghost use Rattle.sd_serve.specs.Outsides.{IsDialledTwice, LinksFirst, LinksOften};
 ghost use Rattle.sd_serve.specs.Promises.{Asks, IsWithin, Numbers, Plays, Prints, Serves, Voids};
-ghost use Rattle.sd_serve.specs.Words.{behind_operand, HasNoForm, IsStatus, is_stop, kind_of, operand_of};
+ghost use Rattle.sd_serve.specs.Words.{behind_operand, has_second, HasNoForm, IsStatus, is_stop, kind_of, operand_of};
 ghost use Rattle.sd_tools.specs.Endings as endings;
 
 use crate::outside::Outside;
 use crate::texts::{HELP, VERSION};
 use crate::tools::{cache_at, query_at};
-use crate::words::{Kind, first_of, kind_of, operand_of};
+use crate::words::{Kind, first_of, kind_of, operand_of, second_of};
 use sd_base::{Sink, Source};
 use sd_daemon::{Host, serve};
 use sd_dial::Dialer;
@@ -93,8 +93,8 @@ where
         source.old source.new (O.told outside.old) (O.told outside.new) (W.held sink.old) (W.held sink.new) result }
     ensures cache { kind_of (map string_bytes words.now) ≡ Kind.Cache → result ≢ USAGE → Voids (behind_operand (map string_bytes words.now))
         (O.told outside.old) (O.told outside.new) (W.held sink.old) (W.held sink.new) result }
-    ensures serve { kind_of (map string_bytes words.now) ≡ Kind.Serve → Serves H.text_at H.source_faults H.door_faults H.gave H.ended W.held
-        (operand_of (map string_bytes words.now)) host.old host.new sink.old sink.new result }
+    ensures serve { kind_of (map string_bytes words.now) ≡ Kind.Serve → Serves H.text_at H.source_faults H.door_faults H.gave H.ended H.stored W.held
+        (operand_of (map string_bytes words.now)) (has_second (behind_operand (map string_bytes words.now))) host.old host.new sink.old sink.new result }
 
     // A password that was sent has at most 1024 bytes.
     ensures within { kind_of (map string_bytes words.now) ≡ Kind.Query → IsWithin (behind_operand (map string_bytes words.now)) (S.left source.old)
@@ -140,7 +140,7 @@ where
         Kind::Version => print(VERSION, source, sink),
         Kind::Query => query_at(alloc, path, rest, source, sink, outside),
         Kind::Cache => cache_at(alloc, path, rest, sink, outside),
-        Kind::Serve => serve(rt, alloc, path, first_of(rest), sink, host),
+        Kind::Serve => serve(rt, alloc, path, first_of(rest), second_of(rest), sink, host),
         Kind::Unknown => end(sink, USAGE, b"usage\n"),
     }
 }

@@ -4,7 +4,7 @@
 pub const HELP: &[u8] = b"\
 scenario                    play the scenario that standard input gives
 idmap                       number the SIDs that standard input gives
-serve CONF SOCKET           serve clients on a Unix socket, by a configuration
+serve CONF SOCKET [STORE]   serve clients on a Unix socket, by a configuration; STORE keeps over a restart what is known
 query SOCKET user NAME      look a user up
 query SOCKET uid N          look a user up by number
 query SOCKET group NAME     look a group up

@@ -1,5 +1,5 @@
 // Which words ask for what.
-ghost use Rattle.std.specs.Prelude.{◌≡◌, map, string_bytes};
+ghost use Rattle.std.specs.Prelude.{◌≡◌, is_some, map, string_bytes};
 ghost use Rattle.sd_serve.specs.Words as forms;
 
 /// What words ask for.
@@ -48,6 +48,7 @@ fn kind_by_rest(word: &[u8], rest: &[String]) -> Kind
 {
     match rest {
         [_second] => kind_of_pair(word),
+        [_second, _third] => kind_of_pair(word),
         _ => Kind::Unknown,
     }
 }
@@ -93,6 +94,16 @@ pub fn first_of(words: &[String]) -> &str
     match words {
         [first, ..] => first.as_str(),
         [] => "",
+    }
+}
+
+/// The second of words, which is a path, where there is one.
+pub fn second_of(words: &[String]) -> Option<&str>
+    ensures { is_some result ≡ forms.has_second (map string_bytes words.now) }
+{
+    match words {
+        [_first, second, ..] => Some(second.as_str()),
+        _ => None,
     }
 }
 

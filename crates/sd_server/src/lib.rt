@@ -3,8 +3,9 @@
 
 mod daemon;
 mod serving;
+mod store;
 mod visit;
 
-pub use daemon::serve_config;
-pub use serving::{ServeEnd, serve_clients};
+pub use daemon::{open_core, serve_core};
+pub use serving::{ServeEnd, Served, serve_clients};
 pub use visit::Equipment;

@@ -1,9 +1,9 @@
 //! The keeper. It holds no connection between its calls, so that the store can be read meanwhile.
-ghost use Rattle.std.specs.Prelude.{◌≡◌, None};
+ghost use Rattle.std.specs.Prelude.{◌≡◌, false, IfOk, None};
 ghost use Rattle.sd_keeper.specs.Keeping as keeping;
 
 use crate::file;
-use crate::table::{self, Found};
+use crate::table::{self, Found, Kept};
 use sd_base::{Blobs, Bytes};
 use sd_keeper::{Keeper, KeeperFault, holds_hash};
 use sqlite::{Connection, Error, ErrorCode, File, FileStore};
@@ -65,29 +65,36 @@ fn open(rt: &HostRuntime, path: &str) -> Result<(Open, Found), Fault> {
     Ok((conn, found))
 }
 
-fn blobs_of(rt: &HostRuntime, conn: &mut Open, found: Found) -> Result<Blobs, Fault> {
+fn kept_of(rt: &HostRuntime, conn: &mut Open, found: Found) -> Result<Kept, Fault> {
     if found == Found::Nothing {
-        return Ok(Blobs::new(rt.alloc()));
+        return Ok(Kept::nothing(rt.alloc()));
     }
-    sql(table::blobs(rt.alloc(), conn))
+    sql(table::kept_in(rt.alloc(), conn))
 }
 
 fn read(rt: &HostRuntime, path: &str) -> Result<Blobs, Fault> {
     let (mut conn, found) = open(rt, path)?;
-    let blobs = blobs_of(rt, &mut conn, found)?;
+    let kept = kept_of(rt, &mut conn, found)?;
     sql(conn.close())?;
-    Ok(blobs)
+    Ok(kept.into_blobs())
 }
 
-fn is_among(blob: &Bytes, blobs: &[Bytes]) -> bool {
-    blobs.contains(blob)
+/// The blobs behind the first that is this one.
+fn behind<'b>(blob: &Bytes, blobs: &'b [Bytes]) -> Option<&'b [Bytes]> {
+    let place = blobs.iter().position(|other| other == blob)?;
+    blobs.get(place + 1..)
 }
 
-/// Whether a hash that was kept is kept no more.
+/// Whether a hash that was kept is kept no more. Blobs have the order of their rows' numbers, so that one walk tells; if they
+/// had another, a hash might count as lost, and the file would be written anew without need.
 fn loses_hash(old: &[Bytes], new: &[Bytes]) -> bool {
+    let mut left = new;
     for blob in old {
-        if holds_hash(blob.bytes()) && !is_among(blob, new) {
-            return true;
+        if holds_hash(blob.bytes()) {
+            let Some(rest) = behind(blob, left) else {
+                return true;
+            };
+            left = rest;
         }
     }
     false
@@ -98,7 +105,7 @@ fn make(rt: &HostRuntime, path: &str, blobs: &[Bytes]) -> Result<(), Fault> {
     file::clear(rt, path).map_err(Fault::Io)?;
     file::create(rt, path).map_err(Fault::Io)?;
     let mut conn = sql(Connection::open(rt, path))?;
-    sql(table::replace(&mut conn, Found::Nothing, blobs))?;
+    sql(table::create(&mut conn, blobs))?;
     sql(conn.close())
 }
 
@@ -112,24 +119,44 @@ fn write_anew(rt: &HostRuntime, path: &str, blobs: &[Bytes]) -> Result<(), Fault
     file::replace(rt, made.as_str(), path).map_err(Fault::Io)
 }
 
-/// Keeps these blobs in place of all others. Where they are what is kept nothing is written; where a hash is kept no more the
-/// file is written anew, since SQLite leaves old bodies in pages that it uses no more; else one transaction replaces all.
+/// Writes what changed, in one transaction; where nothing did, nothing is written.
+fn change(conn: &mut Open, found: Found, kept: &Kept, blobs: &Blobs) -> Result<(), Fault> {
+    if found != Found::Nothing && kept.blobs == *blobs {
+        return Ok(());
+    }
+    sql(table::replace(conn, found, kept, blobs.items()))
+}
+
+/// Closes a store, and writes it anew.
+fn close_and_write(rt: &HostRuntime, path: &str, conn: Open, blobs: &[Bytes]) -> Result<(), Fault> {
+    sql(conn.close())?;
+    write_anew(rt, path, blobs)
+}
+
+/// Writes what changed, and closes the store.
+fn change_and_close(mut conn: Open, found: Found, kept: &Kept, blobs: &Blobs) -> Result<(), Fault> {
+    change(&mut conn, found, kept, blobs)?;
+    sql(conn.close())
+}
+
+/// Keeps these blobs in place of all others. Where a hash is kept no more the file is written anew, since SQLite leaves old
+/// bodies in pages that it uses no more.
 fn write(rt: &HostRuntime, path: &str, blobs: &Blobs) -> Result<(), Fault> {
     let (mut conn, found) = open(rt, path)?;
-    let old = blobs_of(rt, &mut conn, found)?;
-    if loses_hash(old.items(), blobs.items()) {
-        sql(conn.close())?;
-        return write_anew(rt, path, blobs.items());
+    let kept = kept_of(rt, &mut conn, found)?;
+    if loses_hash(kept.blobs.items(), blobs.items()) {
+        close_and_write(rt, path, conn, blobs.items())
+    } else {
+        change_and_close(conn, found, &kept, blobs)
     }
-    if found == Found::Nothing || old != *blobs {
-        sql(table::replace(&mut conn, found, blobs.items()))?;
-    }
-    sql(conn.close())
 }
 
 impl<'a> SqliteKeeper<'a> {
     /// A keeper over the file at this path, which is made where nothing stands there.
-    pub fn open(rt: &'a HostRuntime, path: &str) -> Result<SqliteKeeper<'a>, KeeperFault> {
+    pub fn open(rt: &'a HostRuntime, path: &str) -> Result<SqliteKeeper<'a>, KeeperFault>
+        ensures unfailed { IfOk result (λ keeper. ⟦<SqliteKeeper<'a> as Keeper>⟧.failed keeper ≡ false) }
+        ensures uncounted { IfOk result (λ keeper. ⟦<SqliteKeeper<'a> as Keeper>⟧.faults keeper ≡ 0) }
+    {
         let Ok(at) = String::from_str(rt.alloc(), path) else {
             return Err(KeeperFault::Memory);
         };
@@ -142,6 +169,20 @@ impl<'a> SqliteKeeper<'a> {
             }),
             Err(fault) => Err(keeper_fault(&fault)),
         }
+    }
+
+    /// How many calls have failed.
+    pub fn faults(&self) -> u64
+        ensures { result ≡ ⟦<SqliteKeeper<'a> as Keeper>⟧.faults self.now }
+    {
+        self.faults
+    }
+
+    /// Whether the last call failed.
+    pub fn has_failed(&self) -> bool
+        ensures { result ≡ ⟦<SqliteKeeper<'a> as Keeper>⟧.failed self.now }
+    {
+        self.failed
     }
 }
 

@@ -41,8 +41,43 @@ pub fn content_of<S: Alter>(conn: &mut Connection<S>) -> Result<Found, Error> {
     }
 }
 
+/// The blobs that a table keeps.
+#[derive(Drop)]
+pub struct Kept {
+    /// In the order of their places.
+    pub blobs: Blobs,
+    /// Whether their places are 0, 1, 2 and so on, as they are written here.
+    pub are_in_place: bool,
+}
+
+impl Kept {
+    /// No blobs.
+    pub fn nothing(alloc: Global) -> Kept {
+        Kept {
+            blobs: Blobs::new(alloc),
+            are_in_place: true,
+        }
+    }
+
+    /// The blobs alone.
+    pub fn into_blobs(self) -> Blobs {
+        let Kept {
+            blobs,
+            are_in_place: _,
+        } = self;
+        blobs
+    }
+}
+
+fn number_of(place: usize) -> Result<i64, Error> {
+    match i64::try_from(place) {
+        Ok(number) => Ok(number),
+        Err(_) => Err(TOO_MANY),
+    }
+}
+
 fn body_of(alloc: Global, row: &Row) -> Result<Bytes, Error> {
-    let body = row.get::<Vec<u8>>(0)?;
+    let body = row.get::<Vec<u8>>(1)?;
     match Bytes::from_bytes(alloc, body.as_slice()) {
         Ok(body) => Ok(body),
         Err(_) => Err(Error::SqliteFailure(ErrorCode::OutOfMemory)),
@@ -56,59 +91,105 @@ fn push(blobs: &mut Blobs, blob: Bytes) -> Result<(), Error> {
     }
 }
 
-/// The blobs of the table, in the order of their places.
-pub fn blobs<S: Alter>(alloc: Global, conn: &mut Connection<S>) -> Result<Blobs, Error> {
-    let rows = conn.query_all("SELECT body FROM kept ORDER BY place", &[])?;
-    let mut blobs = Blobs::new(alloc);
-    for row in rows.as_slice() {
-        push(&mut blobs, body_of(alloc, row)?)?;
-    }
-    Ok(blobs)
+fn is_at(row: &Row, place: usize) -> Result<bool, Error> {
+    let number = row.get::<i64>(0)?;
+    Ok(number == number_of(place)?)
 }
 
-fn insert<S: Alter>(tx: &mut Transaction<'_, S>, place: usize, body: &[u8]) -> Result<(), Error> {
-    let Ok(place) = i64::try_from(place) else {
-        return Err(TOO_MANY);
-    };
+/// What the table keeps.
+pub fn kept_in<S: Alter>(alloc: Global, conn: &mut Connection<S>) -> Result<Kept, Error> {
+    let rows = conn.query_all("SELECT place, body FROM kept ORDER BY place", &[])?;
+    let mut kept = Kept::nothing(alloc);
+    for place in 0..rows.len() {
+        let row = &rows[place];
+        kept.are_in_place = kept.are_in_place && is_at(row, place)?;
+        push(&mut kept.blobs, body_of(alloc, row)?)?;
+    }
+    Ok(kept)
+}
+
+fn put<S: Alter>(tx: &mut Transaction<'_, S>, place: usize, body: &[u8]) -> Result<(), Error> {
+    let place = number_of(place)?;
     tx.execute(
-        "INSERT INTO kept (place, body) VALUES (?1, ?2)",
+        "INSERT OR REPLACE INTO kept (place, body) VALUES (?1, ?2)",
         params![place, body],
     )?;
     Ok(())
 }
 
-fn fill<S: Alter>(tx: &mut Transaction<'_, S>, blobs: &[Bytes]) -> Result<(), Error> {
+/// Writes the blobs that are not at their places yet.
+fn put_changed<S: Alter>(
+    tx: &mut Transaction<'_, S>,
+    old: &[Bytes],
+    blobs: &[Bytes],
+) -> Result<(), Error> {
     for place in 0..blobs.len() {
-        insert(tx, place, blobs[place].bytes())?;
+        if old.get(place) != Some(&blobs[place]) {
+            put(tx, place, blobs[place].bytes())?;
+        }
     }
     Ok(())
 }
 
-/// Begins a transaction, makes room by a statement, puts the blobs in and commits. Without a commit nothing is changed; one
-/// that failed may have been made.
-fn replace_by<S: Alter>(
-    conn: &mut Connection<S>,
-    first: &str,
+/// Takes out all rows from this place on.
+fn cut<S: Alter>(tx: &mut Transaction<'_, S>, place: usize) -> Result<(), Error> {
+    let place = number_of(place)?;
+    tx.execute("DELETE FROM kept WHERE place >= ?1", params![place])?;
+    Ok(())
+}
+
+/// Turns a table that keeps some blobs at their places into one of others: what is the same is not written.
+fn change<S: Alter>(
+    tx: &mut Transaction<'_, S>,
+    old: &[Bytes],
     blobs: &[Bytes],
 ) -> Result<(), Error> {
+    put_changed(tx, old, blobs)?;
+    if blobs.len() < old.len() {
+        cut(tx, blobs.len())?;
+    }
+    Ok(())
+}
+
+/// Begins a transaction, makes room by a statement, fills the table and commits. Without a commit nothing is changed; one
+/// that failed may have been made.
+fn fill<S: Alter>(conn: &mut Connection<S>, first: &str, blobs: &[Bytes]) -> Result<(), Error> {
     if !conn.is_autocommit() {
         return Err(IN_TRANSACTION);
     }
     let mut tx = conn.transaction();
     tx.execute(first, &[])?;
-    fill(&mut tx, blobs)?;
+    change(&mut tx, &[], blobs)?;
     tx.commit()
 }
 
-/// The table holds these blobs now and no others, by one transaction; it is made where there is none.
+/// Likewise, over a table that keeps some blobs at their places.
+fn update<S: Alter>(conn: &mut Connection<S>, old: &[Bytes], blobs: &[Bytes]) -> Result<(), Error> {
+    if !conn.is_autocommit() {
+        return Err(IN_TRANSACTION);
+    }
+    let mut tx = conn.transaction();
+    change(&mut tx, old, blobs)?;
+    tx.commit()
+}
+
+/// Makes the table, with these blobs.
+pub fn create<S: Alter>(conn: &mut Connection<S>, blobs: &[Bytes]) -> Result<(), Error> {
+    fill(conn, CREATE, blobs)
+}
+
+/// The table holds these blobs now and no others, by one transaction; it is made where there is none. What it kept already is
+/// not written again, unless another program chose the places.
 pub fn replace<S: Alter>(
     conn: &mut Connection<S>,
     found: Found,
+    kept: &Kept,
     blobs: &[Bytes],
 ) -> Result<(), Error> {
     match found {
-        Found::Nothing => replace_by(conn, CREATE, blobs),
-        Found::Table => replace_by(conn, "DELETE FROM kept", blobs),
+        Found::Nothing => create(conn, blobs),
+        Found::Table if kept.are_in_place => update(conn, kept.blobs.items(), blobs),
+        Found::Table => fill(conn, "DELETE FROM kept", blobs),
         Found::Other => Err(Error::SqliteFailure(ErrorCode::NotADatabase)),
     }
 }
