@@ -37,6 +37,7 @@ pub trait Host {
     /// The file at a path, at its beginning.
     fn file(&mut self, path: &str) -> Result<Self::File, SourceFailed>
         ensures text { IfOk result (λ file. Self.File.left file ≡ text_at self.old path.now) }
+        ensures texts { text_at self.new ≡ text_at self.old }
         ensures unfailed { IfOk result (λ file. Self.File.faults file ≡ 0) }
         ensures failed { OnErr result (Rose (source_faults self.old) (source_faults self.new)) }
         ensures later { source_faults self.old ≤ source_faults self.new }

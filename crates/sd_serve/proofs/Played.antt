@@ -18,6 +18,10 @@ by_pair : (a : Bool) (P : Type 0) → cond a kinds.Serve kinds.Unknown ≡ kinds
 by_pair true P e = cc
 by_pair false P e = cc
 
+by_form : (a : Bool) (P : Type 0) → cond a kinds.Netgroup kinds.Unknown ≡ kinds.Scenario → P
+by_form true P e = cc
+by_form false P e = cc
+
 by_rest : (word : List ℕ) (rest : List (List ℕ)) (P : Type 0) → kind_by_rest word rest ≡ kinds.Scenario → P
 by_rest word [] P e = cc
 by_rest word (second ∷ []) P e = by_pair (same_name word (codes "serve")) P e

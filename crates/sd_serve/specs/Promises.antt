@@ -12,6 +12,8 @@ use Rattle.sd_idmap.specs.Endings as ids
 use Rattle.sd_idmap.specs.Lines as id_lines
 use Rattle.sd_idmap.specs.Transcript as id_script
 use Rattle.sd_layout.specs.Faults as lines
+use Rattle.sd_netgroup.specs.Endings as nets
+use Rattle.sd_netgroup.specs.Words.{question_of}
 use Rattle.sd_scenario.specs.Endings as ends
 use Rattle.sd_scenario.specs.Transcript as script
 use Rattle.sd_scenario.specs.declared.endings.TheConstants.{LIMIT, BAD_LINE, JOURNAL_FULL}
@@ -76,6 +78,22 @@ pub record Numbers {S W : Type 0} (left : S → Option (List ℕ)) (read_faults 
   pub complete : IfSome (left source) (λ text. length text ≤ LIMIT → id_lines.first_bad text ≡ None
       → ¬ (Rose (read_faults source) (read_faults source')) → ¬ (Rose (write_faults sink) (write_faults sink'))
       → status ≢ NO_MEMORY → status ≡ DONE)
+
+-- `netgroup` and `innetgr`, by what the host tells of the files at the two paths: a netgroup is sought in the entries of an LDIF.
+pub record Nets {H W : Type 0} (text_at : H → List ℕ → Option (List ℕ)) (source_faults : H → ℕ) (held : W → Option (List ℕ)) (words : List (List ℕ))
+    (conf ldif : List ℕ) (host host' : H) (sink sink' : W) (status : ℕ) : Type 0 where
+  pub status_is : nets.IsStatus status
+  -- the triples of the netgroup in the entries of the LDIF read whole were written, or the answer by them
+  pub done : status ≡ DONE → nets.OfInputs (question_of words) (text_at host conf) (text_at host ldif)
+      (λ q c l. (output : List ℕ) × nets.OfDirectory c l (nets.IsPrinted q output) × Appends (held sink) (held sink') output)
+  -- each other ending comes by its cause, and what it writes was written
+  pub ends : nets.IsEnding status → nets.OfInputs (question_of words) (text_at host conf) (text_at host ldif)
+      (λ q c l. (output : List ℕ) × nets.Ends q c l status output × Appends (held sink) (held sink') output)
+  -- the sink failed, and a front of the output was written
+  pub front : status ≡ WRITE_FAULT → nets.OfInputs (question_of words) (text_at host conf) (text_at host ldif)
+      (λ q c l. (end : ℕ) × (output : List ℕ) × nets.Ends q c l end output × AppendsFront (held sink) (held sink') output)
+  -- a file could not be read, and nothing was written
+  pub read_fault : status ≡ READ_FAULT → Rose (source_faults host) (source_faults host') × (sink' ≡ sink)
 
 -- `query`, by the words behind its socket: the daemon is asked one thing, over links of which this is told.
 pub record Asks {S : Type 0} (left : S → Option (List ℕ)) (rest : List (List ℕ)) (source source' : S) (told told' : replies.Told)

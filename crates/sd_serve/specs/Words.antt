@@ -19,6 +19,10 @@ kind_of_word word =
 abbrev pub kind_of_pair : List ℕ → Kind
 kind_of_pair word = if same_name word (codes "serve") then kinds.Serve else kinds.Unknown
 
+-- the same of the word of a tool that asks of a netgroup
+abbrev pub kind_by_form : List ℕ → List ℕ → Kind
+kind_by_form word form = if same_name word form then kinds.Netgroup else kinds.Unknown
+
 abbrev pub kind_by_rest : List ℕ → List (List ℕ) → Kind
 kind_by_rest word (second ∷ []) = kind_of_pair word
 kind_by_rest word (second ∷ third ∷ []) = kind_of_pair word

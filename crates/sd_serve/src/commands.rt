@@ -7,6 +7,7 @@ ghost use Rattle.sd_serve.specs.Promises.{Asks, IsWithin, Numbers, Plays, Prints
 ghost use Rattle.sd_serve.specs.Words.{behind_operand, has_second, HasNoForm, IsStatus, is_stop, kind_of, operand_of};
 ghost use Rattle.sd_tools.specs.Endings as endings;
 
+use crate::netgroups::netgroup_at;
 use crate::outside::Outside;
 use crate::texts::{HELP, VERSION};
 use crate::tools::{cache_at, query_at};
@@ -87,6 +88,8 @@ where
     // What each word does, with the cause of each status that it alone has.
     ensures scenario { kind_of (map string_bytes words.now) ≡ Kind.Scenario → Plays S.left S.faults W.held W.faults source.old source.new sink.old sink.new result }
     ensures idmap { kind_of (map string_bytes words.now) ≡ Kind.Idmap → Numbers S.left S.faults W.held W.faults source.old source.new sink.old sink.new result }
+    ensures netgroup { kind_of (map string_bytes words.now) ≡ Kind.Netgroup → Nets H.text_at H.source_faults W.held (map string_bytes words.now)
+        (operand_of (map string_bytes words.now)) (first_of (behind_operand (map string_bytes words.now))) host.old host.new sink.old sink.new result }
     ensures help { kind_of (map string_bytes words.now) ≡ Kind.Help → Prints W.held HELP.now source.old source.new sink.old sink.new result }
     ensures version { kind_of (map string_bytes words.now) ≡ Kind.Version → Prints W.held VERSION.now source.old source.new sink.old sink.new result }
     ensures query { kind_of (map string_bytes words.now) ≡ Kind.Query → result ≢ USAGE → Asks S.left (behind_operand (map string_bytes words.now))
@@ -107,9 +110,10 @@ where
         × LinksFirst (operand_of (map string_bytes words.now)) (O.dialled outside.old) (O.dialled outside.new) (Unit {0}) }
     ensures no_link { kind_of (map string_bytes words.now) ≢ Kind.Query → kind_of (map string_bytes words.now) ≢ Kind.Cache → outside.new ≡ outside.old }
 
-    // No other word takes anything of the host, and `serve` reads no input.
-    ensures no_host { kind_of (map string_bytes words.now) ≢ Kind.Serve → host.new ≡ host.old }
+    // No other word takes anything of the host, and a word that does reads no input.
+    ensures no_host { kind_of (map string_bytes words.now) ≢ Kind.Serve → kind_of (map string_bytes words.now) ≢ Kind.Netgroup → host.new ≡ host.old }
     ensures unread { kind_of (map string_bytes words.now) ≡ Kind.Serve → source.new ≡ source.old }
+    ensures files_unread { kind_of (map string_bytes words.now) ≡ Kind.Netgroup → source.new ≡ source.old }
 
     // A daemon that was told to end is connected to once more, so that it looks up; where that fails, a fault is counted and no more.
     ensures woken { kind_of (map string_bytes words.now) ≡ Kind.Query → result ≡ DONE → is_stop (behind_operand (map string_bytes words.now)) ≡ true
@@ -121,7 +125,8 @@ where
         × (result ≢ WRITE_FAULT → result ≢ NO_MEMORY → result ≡ USAGE) }
 
     // The source failed in this call. Nothing is written.
-    ensures read_fault { kind_of (map string_bytes words.now) ≢ Kind.Serve → result ≡ READ_FAULT → Rose (S.faults source.old) (S.faults source.new) × (sink.new ≡ sink.old) }
+    ensures read_fault { kind_of (map string_bytes words.now) ≢ Kind.Serve → kind_of (map string_bytes words.now) ≢ Kind.Netgroup
+        → result ≡ READ_FAULT → Rose (S.faults source.old) (S.faults source.new) × (sink.new ≡ sink.old) }
 
     // The sink failed in this call, or took nothing of a nonempty piece.
     ensures write_fault { result ≡ WRITE_FAULT → Rose (W.faults sink.old) (W.faults sink.new) }
@@ -136,6 +141,7 @@ where
     match kind_of(words) {
         Kind::Scenario => play(alloc, words, source, sink),
         Kind::Idmap => number(alloc, words, source, sink),
+        Kind::Netgroup => netgroup_at(alloc, words, path, first_of(rest), sink, host),
         Kind::Help => print(HELP, source, sink),
         Kind::Version => print(VERSION, source, sink),
         Kind::Query => query_at(alloc, path, rest, source, sink, outside),

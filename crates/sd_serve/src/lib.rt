@@ -2,6 +2,7 @@
 #![tactic(auto)]
 
 pub mod commands;
+pub mod netgroups;
 pub mod outside;
 pub mod texts;
 pub mod tools;

@@ -9,6 +9,7 @@ pub enum Kind {
     Version,
     Scenario,
     Idmap,
+    Netgroup,
     Query,
     Cache,
     Serve,
@@ -37,6 +38,16 @@ fn kind_of_pair(word: &[u8]) -> Kind
 {
     if word == b"serve".as_slice() {
         Kind::Serve
+    } else {
+        Kind::Unknown
+    }
+}
+
+fn kind_by_form(word: &[u8], form: &[u8]) -> Kind
+    ensures { result ≡ forms.kind_by_form word.now form.now }
+{
+    if word == form {
+        Kind::Netgroup
     } else {
         Kind::Unknown
     }

@@ -1,0 +1,44 @@
+// The words `netgroup` and `innetgr` over the files of a host.
+ghost use Rattle.std.specs.Prelude.{◌≡◌, ◌≢◌, map, string_bytes};
+ghost use Rattle.sd_base.specs.Causes.{Rose};
+ghost use Rattle.sd_serve.specs.Promises.{Nets};
+ghost use Rattle.sd_serve.specs.Words.{kind_of};
+
+use crate::words::Kind;
+use sd_base::{Sink, SourceFailed};
+use sd_daemon::Host;
+use sd_netgroup::netgroup_tool;
+use sd_tools::{NO_MEMORY, READ_FAULT, Status, USAGE, WRITE_FAULT};
+use std::alloc::Global;
+
+/// Opens the two files, and answers by them what words ask of a netgroup.
+pub fn netgroup_at<W: Sink, H: Host>(
+    alloc: Global,
+    words: &[String],
+    conf: &str,
+    ldif: &str,
+    sink: &mut W,
+    host: &mut H,
+) -> Status
+    requires { kind_of (map string_bytes words.now) ≡ Kind.Netgroup }
+    ensures nets { Nets H.text_at H.source_faults W.held (map string_bytes words.now) conf.now ldif.now host.old host.new sink.old sink.new result }
+    ensures known { result ≢ USAGE }
+    ensures write_fault { result ≡ WRITE_FAULT → Rose (W.faults sink.old) (W.faults sink.new) }
+    ensures no_memory { result ≡ NO_MEMORY → sink.new ≡ sink.old }
+{
+    let mut conf = match host.file(conf) {
+        Ok(file) => file,
+        Err(SourceFailed) => return READ_FAULT,
+    };
+    let mut ldif = match host.file(ldif) {
+        Ok(file) => file,
+        Err(SourceFailed) => {
+            host.done_file(conf);
+            return READ_FAULT;
+        }
+    };
+    let status = netgroup_tool(alloc, words, &mut conf, &mut ldif, sink);
+    host.done_file(conf);
+    host.done_file(ldif);
+    status
+}
