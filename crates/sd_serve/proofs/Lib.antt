@@ -3,3 +3,4 @@ pub mod Told
 pub mod Asked
 pub mod Voided
 pub mod Played
+pub mod Netted

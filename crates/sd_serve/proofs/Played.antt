@@ -14,19 +14,27 @@ by_word false false true d e = cc
 by_word false false false true e = cc
 by_word false false false false e = cc
 
-by_pair : (a : Bool) (P : Type 0) → cond a kinds.Serve kinds.Unknown ≡ kinds.Scenario → P
-by_pair true P e = cc
-by_pair false P e = cc
+by_three : (a : Bool) (P : Type 0) → cond a kinds.Serve kinds.Unknown ≡ kinds.Scenario → P
+by_three true P e = cc
+by_three false P e = cc
 
-by_form : (a : Bool) (P : Type 0) → cond a kinds.Netgroup kinds.Unknown ≡ kinds.Scenario → P
-by_form true P e = cc
-by_form false P e = cc
+by_four : (a b : Bool) (P : Type 0) → cond a kinds.Serve (cond b kinds.Netgroup kinds.Unknown) ≡ kinds.Scenario → P
+by_four true b P e = cc
+by_four false true P e = cc
+by_four false false P e = cc
+
+by_seven : (a : Bool) (P : Type 0) → cond a kinds.Netgroup kinds.Unknown ≡ kinds.Scenario → P
+by_seven true P e = cc
+by_seven false P e = cc
 
 by_rest : (word : List ℕ) (rest : List (List ℕ)) (P : Type 0) → kind_by_rest word rest ≡ kinds.Scenario → P
 by_rest word [] P e = cc
-by_rest word (second ∷ []) P e = by_pair (same_name word (codes "serve")) P e
-by_rest word (second ∷ third ∷ []) P e = by_pair (same_name word (codes "serve")) P e
-by_rest word (second ∷ third ∷ fourth ∷ rest) P e = cc
+by_rest word (third ∷ []) P e = by_three (same_name word (codes "serve")) P e
+by_rest word (third ∷ fourth ∷ []) P e = by_four (same_name word (codes "serve")) (same_name word (codes "netgroup")) P e
+by_rest word (third ∷ fourth ∷ fifth ∷ []) P e = cc
+by_rest word (third ∷ fourth ∷ fifth ∷ sixth ∷ []) P e = cc
+by_rest word (third ∷ fourth ∷ fifth ∷ sixth ∷ seventh ∷ []) P e = by_seven (same_name word (codes "innetgr")) P e
+by_rest word (third ∷ fourth ∷ fifth ∷ sixth ∷ seventh ∷ eighth ∷ rest) P e = cc
 
 by_tool : (a b : Bool) (k : Kind) (P : Type 0) → (k ≡ kinds.Scenario → P) → cond a kinds.Query (cond b kinds.Cache k) ≡ kinds.Scenario → P
 by_tool true b k P f e = cc

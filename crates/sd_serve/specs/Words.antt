@@ -15,17 +15,26 @@ kind_of_word word =
     else if same_name word (codes "--version") then kinds.Version
     else kinds.Unknown
 
--- a word with two or three more behind it
-abbrev pub kind_of_pair : List ℕ → Kind
-kind_of_pair word = if same_name word (codes "serve") then kinds.Serve else kinds.Unknown
+-- three words in all
+abbrev pub kind_of_three : List ℕ → Kind
+kind_of_three word = if same_name word (codes "serve") then kinds.Serve else kinds.Unknown
 
--- the same of the word of a tool that asks of a netgroup
-abbrev pub kind_by_form : List ℕ → List ℕ → Kind
-kind_by_form word form = if same_name word form then kinds.Netgroup else kinds.Unknown
+-- four
+abbrev pub kind_of_four : List ℕ → Kind
+kind_of_four word =
+    if same_name word (codes "serve") then kinds.Serve
+    else if same_name word (codes "netgroup") then kinds.Netgroup
+    else kinds.Unknown
 
+-- seven
+abbrev pub kind_of_seven : List ℕ → Kind
+kind_of_seven word = if same_name word (codes "innetgr") then kinds.Netgroup else kinds.Unknown
+
+-- by the words behind the second
 abbrev pub kind_by_rest : List ℕ → List (List ℕ) → Kind
-kind_by_rest word (second ∷ []) = kind_of_pair word
-kind_by_rest word (second ∷ third ∷ []) = kind_of_pair word
+kind_by_rest word (third ∷ []) = kind_of_three word
+kind_by_rest word (third ∷ fourth ∷ []) = kind_of_four word
+kind_by_rest word (third ∷ fourth ∷ fifth ∷ sixth ∷ seventh ∷ []) = kind_of_seven word
 kind_by_rest word _ = kinds.Unknown
 
 -- a word with a path behind it, and the words behind that
@@ -75,6 +84,6 @@ abbrev pub is_stop : List (List ℕ) → Bool
 is_stop (word ∷ []) = same_name word (codes "stop")
 is_stop _ = false
 
--- the statuses of the program: 0, and 2 to 14
+-- the statuses of the program: 0, and 2 to 16
 abbrev pub IsStatus : ℕ → Type 0
-IsStatus status = (status ≢ 1) × (status ≤ 14)
+IsStatus status = (status ≢ 1) × (status ≤ 16)

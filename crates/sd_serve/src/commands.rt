@@ -3,8 +3,8 @@ ghost use Rattle.std.specs.Prelude.{◌≡◌, ◌≢◌, ◌⊎◌, map, string
 ghost use Rattle.std.specs.Io.KnownBytes.{Appends};
 ghost use Rattle.sd_base.specs.Causes.{Rose};
 ghost use Rattle.sd_serve.specs.Outsides.{IsDialledTwice, LinksFirst, LinksOften};
-ghost use Rattle.sd_serve.specs.Promises.{Asks, IsWithin, Numbers, Plays, Prints, Serves, Voids};
-ghost use Rattle.sd_serve.specs.Words.{behind_operand, has_second, HasNoForm, IsStatus, is_stop, kind_of, operand_of};
+ghost use Rattle.sd_serve.specs.Promises.{Asks, IsWithin, Nets, Numbers, Plays, Prints, Serves, Voids};
+ghost use Rattle.sd_serve.specs.Words.{behind_operand, first_of, has_second, HasNoForm, IsStatus, is_stop, kind_of, operand_of};
 ghost use Rattle.sd_tools.specs.Endings as endings;
 
 use crate::netgroups::netgroup_at;

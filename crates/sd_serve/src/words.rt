@@ -9,6 +9,7 @@ pub enum Kind {
     Version,
     Scenario,
     Idmap,
+    /// `netgroup` and `innetgr`.
     Netgroup,
     Query,
     Cache,
@@ -33,8 +34,8 @@ fn kind_of_word(word: &[u8]) -> Kind
     }
 }
 
-fn kind_of_pair(word: &[u8]) -> Kind
-    ensures { result ≡ forms.kind_of_pair word.now }
+fn kind_of_three(word: &[u8]) -> Kind
+    ensures { result ≡ forms.kind_of_three word.now }
 {
     if word == b"serve".as_slice() {
         Kind::Serve
@@ -43,23 +44,36 @@ fn kind_of_pair(word: &[u8]) -> Kind
     }
 }
 
-fn kind_by_form(word: &[u8], form: &[u8]) -> Kind
-    ensures { result ≡ forms.kind_by_form word.now form.now }
+fn kind_of_four(word: &[u8]) -> Kind
+    ensures { result ≡ forms.kind_of_four word.now }
 {
-    if word == form {
+    if word == b"serve".as_slice() {
+        Kind::Serve
+    } else if word == b"netgroup".as_slice() {
         Kind::Netgroup
     } else {
         Kind::Unknown
     }
 }
 
-/// What a word asks for that is no tool's.
+fn kind_of_seven(word: &[u8]) -> Kind
+    ensures { result ≡ forms.kind_of_seven word.now }
+{
+    if word == b"innetgr".as_slice() {
+        Kind::Netgroup
+    } else {
+        Kind::Unknown
+    }
+}
+
+/// What a word asks for that is no tool's, by how many words there are.
 fn kind_by_rest(word: &[u8], rest: &[String]) -> Kind
     ensures { result ≡ forms.kind_by_rest word.now (map string_bytes rest.now) }
 {
     match rest {
-        [_second] => kind_of_pair(word),
-        [_second, _third] => kind_of_pair(word),
+        [_third] => kind_of_three(word),
+        [_third, _fourth] => kind_of_four(word),
+        [_third, _fourth, _fifth, _sixth, _seventh] => kind_of_seven(word),
         _ => Kind::Unknown,
     }
 }
