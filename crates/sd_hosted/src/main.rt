@@ -1,0 +1,73 @@
+// Plays daemons whose host is in memory: standard input has many, standard output gets what each writes and leaves.
+//
+// A line `== NAME` begins a daemon. The lines behind it say what it finds, in any order:
+//   conf LINE       this line ends its configuration
+//   down            its server takes no link
+//   store           it is given an empty store, `store again` what the daemon before left
+//   blob HEX        these octets stand in its store, behind others
+//   fail store N    the N-th call on its store fails, counted from 1; so does the N-th accept of `fail door N`
+//   client          a client comes; `ask REQUEST` is what the last client asks, in the words of `query`
+//   silent          what clients are told is not printed, only whether all were told the same
+//
+// Behind the name stand what the daemon wrote, `= STATUS`, what each client was told, a line for each reply, and the blobs that
+// its store has at the end, a line for each: its first octet, which tells the kind of row, and how many octets it has.
+#![tactic(auto)]
+
+mod case;
+mod doors;
+mod host;
+mod keeper;
+mod lines;
+mod play;
+mod requests;
+
+use case::Case;
+use lines::{cut_line, cut_text};
+use play::Player;
+use sd_base::{Memory, ReaderSource, WriterSink, read_all, write_all};
+use std::alloc::Global;
+use std::process::ExitCode;
+use std::sync::Wait;
+use std::thread::Threads;
+
+/// The longest input, in bytes.
+const LIMIT: usize = 1 << 20;
+
+/// What all daemons of a text write and leave.
+fn play_all<R: Threads + Wait + Sync>(
+    rt: &R,
+    alloc: Global,
+    text: &[u8],
+) -> Result<Vec<u8>, Memory> {
+    let mut out = Vec::new(alloc);
+    let mut player = Player::new(rt, alloc)?;
+    let mut left = text;
+    for _ in 0..text.len() {
+        if left.is_empty() {
+            break;
+        }
+        let (name, rest) = cut_line(left);
+        let (body, rest) = cut_text(rest);
+        out.extend_from_slice(name)?;
+        out.push(b'\n')?;
+        player.play(Case::of(alloc, body)?, &mut out)?;
+        left = rest;
+    }
+    Ok(out)
+}
+
+fn main(rt: HostRuntime) -> ExitCode {
+    let alloc = rt.alloc();
+    let mut source = ReaderSource::new(rt.stdin());
+    let mut sink = WriterSink::new(rt.stdout());
+    let Ok(text) = read_all(alloc, &mut source, LIMIT) else {
+        return ExitCode::from(3);
+    };
+    let Ok(out) = play_all(&rt, alloc, text.as_slice()) else {
+        return ExitCode::from(7);
+    };
+    match write_all(&mut sink, out.as_slice()) {
+        Ok(()) => ExitCode::from(0),
+        Err(_) => ExitCode::from(4),
+    }
+}
