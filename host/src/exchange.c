@@ -7,6 +7,7 @@
 #include <stdlib.h>
 #include <string.h>
 #include <sys/socket.h>
+#include <sys/stat.h>
 #include <sys/time.h>
 #include <sys/uio.h>
 #include <sys/un.h>
@@ -210,22 +211,110 @@ static enum exchange_end receive_front(struct exchange *exchange, char *text, si
     return EXCHANGE_WELL;
 }
 
-enum exchange_end exchange_open(struct exchange *exchange, const struct request *request, char *text, size_t room)
+/* The connection that this process keeps between two questions: one, so that other threads make their own
+ * meanwhile. It is told by its file, since a program may close descriptors that are not its own and open
+ * others under their numbers, and by the process, since a child that was forked has its parent's. */
+static struct {
+    pthread_mutex_t lock;
+    int descriptor;
+    pid_t process;
+    dev_t device;
+    ino_t file;
+} kept = { .lock = PTHREAD_MUTEX_INITIALIZER, .descriptor = -1 };
+
+static bool is_file(int descriptor, dev_t device, ino_t file)
+{
+    struct stat status;
+
+    return fstat(descriptor, &status) == 0 && S_ISSOCK(status.st_mode) && status.st_dev == device && status.st_ino == file;
+}
+
+/* The kept connection, which is nobody else's then; below 0 where there is none. */
+static int take_kept(void)
+{
+    int descriptor = -1;
+
+    /* In a child of a thread that held the lock it stays held. */
+    if (pthread_mutex_trylock(&kept.lock) != 0)
+        return -1;
+    if (kept.descriptor >= 0 && is_file(kept.descriptor, kept.device, kept.file)) {
+        if (kept.process == getpid())
+            descriptor = kept.descriptor;
+        else
+            close(kept.descriptor);
+    }
+    kept.descriptor = -1;
+    pthread_mutex_unlock(&kept.lock);
+    return descriptor;
+}
+
+/* Whether the connection is kept: not where another is. */
+static bool keep(int descriptor)
+{
+    struct stat status;
+    bool is_kept = false;
+
+    if (fstat(descriptor, &status) != 0 || pthread_mutex_trylock(&kept.lock) != 0)
+        return false;
+    if (kept.descriptor < 0) {
+        kept.descriptor = descriptor;
+        kept.process = getpid();
+        kept.device = status.st_dev;
+        kept.file = status.st_ino;
+        is_kept = true;
+    }
+    pthread_mutex_unlock(&kept.lock);
+    return is_kept;
+}
+
+/* A program that unloads the module has no descriptor left of it. */
+__attribute__((destructor)) static void close_kept(void)
+{
+    int descriptor = take_kept();
+
+    if (descriptor >= 0)
+        close(descriptor);
+}
+
+static enum exchange_end ask(struct exchange *exchange, const struct request *request, char *text, size_t room)
+{
+    enum exchange_end end = send_request(exchange, request);
+
+    return end == EXCHANGE_WELL ? receive_front(exchange, text, room) : end;
+}
+
+static enum exchange_end ask_anew(struct exchange *exchange, const struct request *request, char *text, size_t room)
 {
     enum exchange_end end;
 
-    *exchange = (struct exchange){ .descriptor = -1 };
-    exchange->deadline = monotonic_now() + BIXETHOMI_QUESTION_SECONDS * nanoseconds_of_second;
-    pthread_setcancelstate(PTHREAD_CANCEL_DISABLE, &exchange->cancel_state);
     exchange->descriptor = above_standard_streams(socket(AF_UNIX, SOCK_STREAM | SOCK_CLOEXEC, 0));
     if (exchange->descriptor < 0)
         return EXCHANGE_STARVED;
     end = connect_to_daemon(exchange->descriptor);
     if (end == EXCHANGE_WELL && is_own_socket(exchange->descriptor))
         end = EXCHANGE_NO_DAEMON;
-    if (end == EXCHANGE_WELL)
-        end = send_request(exchange, request);
-    return end == EXCHANGE_WELL ? receive_front(exchange, text, room) : end;
+    return end == EXCHANGE_WELL ? ask(exchange, request, text, room) : end;
+}
+
+enum exchange_end exchange_open(struct exchange *exchange, enum connection_use use, const struct request *request, char *text,
+                                size_t room)
+{
+    *exchange = (struct exchange){ .descriptor = -1, .use = use };
+    exchange->deadline = monotonic_now() + BIXETHOMI_QUESTION_SECONDS * nanoseconds_of_second;
+    pthread_setcancelstate(PTHREAD_CANCEL_DISABLE, &exchange->cancel_state);
+    if (use == CONNECTION_KEPT)
+        exchange->descriptor = take_kept();
+    if (exchange->descriptor >= 0) {
+        enum exchange_end end = ask(exchange, request, text, room);
+
+        if (end != EXCHANGE_BROKEN)
+            return end;
+        /* The daemon ended it, or is another one by now. */
+        close(exchange->descriptor);
+        exchange->descriptor = -1;
+        exchange->length = exchange->received = 0;
+    }
+    return ask_anew(exchange, request, text, room);
 }
 
 enum exchange_end exchange_take(struct exchange *exchange, char *piece, size_t room, size_t *taken)
@@ -251,11 +340,17 @@ enum exchange_end exchange_fill(struct exchange *exchange, char *text, size_t wa
     return EXCHANGE_WELL;
 }
 
+/* Of a reply that was not taken whole the rest would be taken for the next one. */
+static bool is_whole(const struct exchange *exchange)
+{
+    return exchange->use == CONNECTION_KEPT && exchange->length > 0 && exchange->received == exchange->length;
+}
+
 void exchange_close(struct exchange *exchange)
 {
     int ignored;
 
-    if (exchange->descriptor >= 0)
+    if (exchange->descriptor >= 0 && !(is_whole(exchange) && keep(exchange->descriptor)))
         close(exchange->descriptor);
     exchange->descriptor = -1;
     pthread_setcancelstate(exchange->cancel_state, &ignored);

@@ -1,6 +1,7 @@
-/* One question to the daemon over its public socket: a connection of its own, one request, one reply.
- * Every wait has a bound, no signal is raised by a closed socket, and the descriptor is not handed to
- * programs that are started meanwhile. */
+/* One question to the daemon over its public socket: one request, one reply. Every wait has a bound, no
+ * signal is raised by a closed socket, and the descriptor is not handed to programs that are started
+ * meanwhile. A process may keep the connection of a question that went well for its next one; the daemon
+ * ends one that is idle for a minute, and then another is made. */
 #ifndef BIXETHOMI_EXCHANGE_H
 #define BIXETHOMI_EXCHANGE_H
 
@@ -18,18 +19,25 @@ enum exchange_end {
     EXCHANGE_STARVED    /* this process, or the system, has no descriptor or no memory to give */
 };
 
+enum connection_use {
+    CONNECTION_OF_ITS_OWN,
+    CONNECTION_KEPT /* for requests that may be made twice: the daemon may end a kept one meanwhile */
+};
+
 struct exchange {
     int descriptor; /* below 0 where there is none */
+    enum connection_use use;
     int cancel_state;
     int64_t deadline; /* nanoseconds of the monotonic clock */
     size_t length;    /* of the reply's text, in bytes, at most LONGEST_REPLY */
     size_t received;  /* of these */
 };
 
-/* Connects, sends the request, and takes the reply's length with as much of its text as came with it,
+/* Connects, or takes the kept connection, sends the request, and takes the reply's length with as much of its text as came with it,
  * at most `room` bytes. A thread cannot be cancelled from here to `exchange_close`, which has to
  * follow however this ends. */
-enum exchange_end exchange_open(struct exchange *exchange, const struct request *request, char *text, size_t room);
+enum exchange_end exchange_open(struct exchange *exchange, enum connection_use use, const struct request *request, char *text,
+                                size_t room);
 
 /* Takes one more piece of the text, at most `room` bytes and none behind the text's end; its size goes
  * to `taken` and is not 0. Text has to be left, and `room` is not 0. */
@@ -39,6 +47,7 @@ enum exchange_end exchange_take(struct exchange *exchange, char *piece, size_t r
  * what was received before. */
 enum exchange_end exchange_fill(struct exchange *exchange, char *text, size_t wanted);
 
+/* Keeps the connection where that is asked and the whole reply was taken, or closes it. */
 void exchange_close(struct exchange *exchange);
 
 #endif

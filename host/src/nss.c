@@ -103,7 +103,7 @@ static struct outcome ask_record(const struct request *request, char *buffer, si
     struct lookup_reply reply;
     struct outcome outcome;
 
-    outcome = outcome_of_end(exchange_open(&exchange, request, buffer, room));
+    outcome = outcome_of_end(exchange_open(&exchange, CONNECTION_KEPT, request, buffer, room));
     if (outcome.status == NSS_STATUS_SUCCESS && exchange.length > room)
         outcome = buffer_too_small;
     if (outcome.status == NSS_STATUS_SUCCESS)
@@ -325,7 +325,7 @@ enum nss_status _nss_bixethomi_initgroups_dyn(const char *name, gid_t skipped, l
         struct exchange exchange;
         char piece[4096];
 
-        outcome = outcome_of_end(exchange_open(&exchange, &request, piece, sizeof piece));
+        outcome = outcome_of_end(exchange_open(&exchange, CONNECTION_KEPT, &request, piece, sizeof piece));
         if (outcome.status == NSS_STATUS_SUCCESS)
             outcome = read_gids(&exchange, piece, sizeof piece, name, &list);
         exchange_close(&exchange);

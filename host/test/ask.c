@@ -5,6 +5,9 @@
  *
  *   -r ROOM   the first buffer's bytes (1024), or the first list's places (4)
  *   -n COUNT  asks so often, and prints once; every answer has to be the same
+ *   -m        meddles between two answers: a child asks too, then what was opened since is closed, and its
+ *             numbers are others'
+ *   -p MS     waits so long between two answers
  *   -t COUNT  asks in so many threads
  *   -s        a signal each millisecond, whose handler lets no call go on
  *   -c        starts a program while the answer is awaited, and prints the sockets that it was given
@@ -46,6 +49,8 @@ struct question {
     const char *kind, *name;
     size_t room;
     long count;
+    bool has_meddler;
+    struct timespec pause;
     char *answer; /* ANSWER bytes */
     bool differs;
 };
@@ -220,6 +225,34 @@ static void ask_once(const struct question *question, char *answer)
     snprintf(answer, ANSWER, "%s %s%s", status_name(status), status == NSS_STATUS_SUCCESS ? "-" : strerrorname_np(error), record);
 }
 
+/* A child's answer has to be the same, and takes nothing from its parent's connection. */
+static bool asks_in_child(const struct question *question, char *answer)
+{
+    int status;
+    pid_t child = fork();
+
+    if (child < 0)
+        fail("no child");
+    if (child == 0) {
+        ask_once(question, answer);
+        _exit(strcmp(answer, question->answer) == 0 ? 0 : 1);
+    }
+    return waitpid(child, &status, 0) == child && WIFEXITED(status) && WEXITSTATUS(status) == 0;
+}
+
+static int opened_first;
+static int spare = -1;
+
+/* As a program does that closes all that it does not know, and opens files of its own. */
+static void take_numbers(void)
+{
+    for (int i = opened_first; i < 256; i++)
+        close(i);
+    spare = open("/dev/null", O_RDONLY | O_CLOEXEC);
+    if (spare != opened_first)
+        fail("a number is another's");
+}
+
 static void *ask_often(void *given)
 {
     struct question *question = given;
@@ -229,6 +262,11 @@ static void *ask_often(void *given)
         fail("no memory");
     ask_once(question, question->answer);
     for (long i = 1; i < question->count; i++) {
+        if (question->has_meddler && !asks_in_child(question, answer))
+            question->differs = true;
+        if (question->has_meddler && i % 2 == 0)
+            take_numbers();
+        nanosleep(&question->pause, NULL);
         ask_once(question, answer);
         if (strcmp(answer, question->answer) != 0)
             question->differs = true;
@@ -308,13 +346,17 @@ int main(int count, char **words)
     int before;
     bool is_well = true;
 
-    for (int option; (option = getopt(count, words, "r:n:t:scfxo")) != -1;) {
+    for (int option; (option = getopt(count, words, "r:n:t:p:mscfxo")) != -1;) {
         if (option == 'r')
             question.room = strtoul(optarg, NULL, 10);
         else if (option == 'n')
             question.count = strtol(optarg, NULL, 10);
         else if (option == 't')
             threads = (int)strtol(optarg, NULL, 10);
+        else if (option == 'm')
+            question.has_meddler = true;
+        else if (option == 'p')
+            question.pause = (struct timespec){ .tv_sec = atol(optarg) / 1000, .tv_nsec = atol(optarg) % 1000 * 1000000 };
         else if (option == 's')
             has_alarms = true;
         else if (option == 'c')
@@ -340,6 +382,8 @@ int main(int count, char **words)
     if (questions == NULL)
         fail("no memory");
     before = open_descriptors();
+    opened_first = dup(2);
+    close(opened_first);
     int output = is_without_streams ? fcntl(1, F_DUPFD_CLOEXEC, 100) : 1;
     if (is_without_streams) {
         close(0);
@@ -369,7 +413,10 @@ int main(int count, char **words)
     }
     if (starts_program)
         pthread_join(program, NULL);
-    if (open_descriptors() != before - (is_without_streams ? 1 : 0))
+    if (spare >= 0)
+        close(spare);
+    /* What the module keeps goes with it. */
+    if (dlclose(module) != 0 || open_descriptors() != before - (is_without_streams ? 1 : 0))
         is_well = false;
     dprintf(output, "%s%s\n", questions[0].answer, is_well ? "" : " (answers differ, or a descriptor is left)");
     for (int i = 0; i < threads; i++)

@@ -18,6 +18,7 @@ use std::fs::{File, Files};
 use std::io::{Eprint, Read};
 use std::net::Net;
 use std::random::RandomSource;
+use std::sync::Wait;
 use std::sync::atomic::{AtomicU64, Ordering};
 use std::time::Clock;
 
@@ -213,7 +214,7 @@ impl<'r, R> SystemHost<'r, R> {
 
 impl<'r, R> Host for SystemHost<'r, R>
 where
-    R: Files + Net + Clock + RandomSource + Eprint + Alloc<A = Global> + Sync,
+    R: Files + Net + Clock + RandomSource + Eprint + Wait + Alloc<A = Global> + Sync,
     R::Stream: Send,
 {
     type File = FileSource<R::File>;

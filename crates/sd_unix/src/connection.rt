@@ -2,41 +2,31 @@
 ghost use Rattle.std.specs.Prelude.{◌≡◌, IfOk, None};
 ghost use Rattle.std.specs.Io.{ReadsAtMost};
 
+use crate::callers::{Caller, Visitor, WayBack};
 use crate::place::FramePlace;
 use sd_base::{Sink, SinkFailed, Source, SourceFailed};
 use std::alloc::Global;
 use std::io;
 use std::io::{ErrorKind, Read, Write};
 use std::os::unix::net::UnixStream;
-use std::sync::Arc;
-use std::sync::atomic::{AtomicBool, Ordering};
+use std::sync::{Arc, Wait};
 use std::time::Duration;
 
-/// How long a client may be idle between two frames, in seconds.
-const IDLE_SECONDS: u64 = 60;
 /// How long a client may send nothing in the middle of a frame, or take nothing of a reply, in seconds.
 const STALL_SECONDS: u64 = 10;
-/// How long a single wait for a client's bytes lasts, in seconds. Between two of them it is looked at whether the
-/// daemon ends.
-const LOOK_SECONDS: u64 = 1;
+/// How long a single wait for a client's bytes lasts, in milliseconds. Who sends nothing between two frames for so long goes
+/// back to the lobby, and the thread that served it is free.
+const LOOK_MILLIS: u64 = 50;
 
-/// Who comes through a door.
-#[derive(Clone, Copy, Debug, PartialEq, Eq)]
-pub enum Visitor {
-    /// Who may send every request.
-    Administrator,
-    /// Any user of the host, who may ask for lookups, logins and account checks.
-    Anyone,
-}
-
-/// What a client sends. A take fails once the client is idle or stalls for too long, once the daemon ends and the
-/// client is between two frames, and where a client that is no administrator sends an administrator's command. It
-/// tells no content.
+/// What a client sends. It ends where the client closes its end, and where the client is idle between two frames, which then
+/// waits in the lobby again. A take fails once the client stalls in the middle of a frame, once the daemon ends and the client is
+/// between two frames, and where a client that is no administrator sends an administrator's command. It tells no content.
 #[derive(Drop)]
-pub struct ClientSource {
-    stream: UnixStream,
-    visitor: Visitor,
-    ending: Arc<AtomicBool, Global>,
+pub struct ClientSource<'r, R> {
+    rt: &'r R,
+    /// None once it went back to the lobby.
+    caller: Option<Caller>,
+    way_back: Arc<WayBack, Global>,
     place: FramePlace,
     faults: u64,
 }
@@ -44,72 +34,103 @@ pub struct ClientSource {
 /// How many looks a wait for a client's bytes lasts.
 fn looks_at(place: FramePlace) -> u64 {
     match place {
-        FramePlace::Between => IDLE_SECONDS / LOOK_SECONDS,
-        _ => STALL_SECONDS / LOOK_SECONDS,
+        FramePlace::Between => 1,
+        _ => STALL_SECONDS * 1000 / LOOK_MILLIS,
     }
 }
 
-/// Waits for bytes; between two frames no longer than the daemon goes on.
+/// Waits for bytes; between two frames no longer than the daemon goes on. Where none come in time the error is of the kind
+/// WouldBlock.
 fn read_in_time(
     stream: &mut UnixStream,
-    ending: &AtomicBool,
+    way_back: &WayBack,
     place: FramePlace,
     buf: &mut [u8],
 ) -> io::Result<usize>
     ensures { ReadsAtMost result buf.new }
 {
+    if place == FramePlace::Between && way_back.is_ending() {
+        return Err(io::Error::from(ErrorKind::ConnectionAborted));
+    }
     for _ in 0..looks_at(place) {
-        if place == FramePlace::Between && ending.load(Ordering::SeqCst) {
-            return Err(io::Error::from(ErrorKind::ConnectionAborted));
-        }
         match stream.read(buf) {
             Err(error) if error.kind() == ErrorKind::WouldBlock => {}
             read => return read,
         }
     }
-    Err(io::Error::from(ErrorKind::TimedOut))
+    Err(io::Error::from(ErrorKind::WouldBlock))
 }
 
-impl ClientSource {
-    /// What is read of a stream until `ending` is set.
+impl<'r, R: Wait> ClientSource<'r, R> {
+    /// What is read of a client.
     pub(crate) fn new(
-        stream: UnixStream,
-        visitor: Visitor,
-        ending: Arc<AtomicBool, Global>,
-    ) -> io::Result<ClientSource>
-        ensures { IfOk result (λ source. ⟦<ClientSource as Source>⟧.faults source ≡ 0) }
+        rt: &'r R,
+        caller: Caller,
+        way_back: Arc<WayBack, Global>,
+    ) -> io::Result<ClientSource<'r, R>>
+        ensures { IfOk result (λ source. ⟦<ClientSource<'r, R> as Source>⟧.faults source ≡ 0) }
     {
-        stream.set_read_timeout(Some(Duration::from_secs(LOOK_SECONDS)))?;
+        caller
+            .stream
+            .set_read_timeout(Some(Duration::from_millis(LOOK_MILLIS)))?;
         Ok(ClientSource {
-            stream,
-            visitor,
-            ending,
+            rt,
+            caller: Some(caller),
+            way_back,
             place: FramePlace::Between,
             faults: 0,
         })
     }
 
+    /// Sends the client back to the lobby.
+    fn go_back(&mut self)
+        ensures { ⟦<ClientSource<'r, R> as Source>⟧.faults self.new ≡ ⟦<ClientSource<'r, R> as Source>⟧.faults self.old }
+    {
+        if let Some(caller) = self.caller.take() {
+            self.way_back.give(self.rt, caller);
+        }
+    }
+
+    /// Waits for bytes; tells whether they may be sent.
     fn read(&mut self, buf: &mut [u8]) -> io::Result<usize>
         ensures bound { ReadsAtMost result buf.new }
-        ensures faults { ⟦<ClientSource as Source>⟧.faults self.new ≡ ⟦<ClientSource as Source>⟧.faults self.old }
+        ensures faults { ⟦<ClientSource<'r, R> as Source>⟧.faults self.new ≡ ⟦<ClientSource<'r, R> as Source>⟧.faults self.old }
     {
-        let count = read_in_time(&mut self.stream, &self.ending, self.place, buf)?;
+        let Some(caller) = &mut self.caller else {
+            return Ok(0);
+        };
+        let count = read_in_time(&mut caller.stream, &self.way_back, self.place, buf)?;
         let bytes = &buf[..count];
-        if self.visitor == Visitor::Anyone && self.place.has_reserved(bytes) {
+        if caller.visitor == Visitor::Anyone && self.place.has_reserved(bytes) {
             return Err(io::Error::from(ErrorKind::PermissionDenied));
         }
         self.place = self.place.after(bytes);
         Ok(count)
     }
+
+    /// Waits for bytes. Who is idle between two frames goes back to the lobby.
+    fn read_or_go_back(&mut self, buf: &mut [u8]) -> io::Result<usize>
+        ensures bound { ReadsAtMost result buf.new }
+        ensures faults { ⟦<ClientSource<'r, R> as Source>⟧.faults self.new ≡ ⟦<ClientSource<'r, R> as Source>⟧.faults self.old }
+    {
+        match self.read(buf) {
+            Err(error)
+                if error.kind() == ErrorKind::WouldBlock && self.place == FramePlace::Between => {
+                self.go_back();
+                Ok(0)
+            }
+            read => read,
+        }
+    }
 }
 
-impl Source for ClientSource {
+impl<'r, R: Wait> Source for ClientSource<'r, R> {
     ghost left = { λ _. None };
 
     ghost faults = { λ s. s.faults };
 
     fn take(&mut self, buf: &mut [u8]) -> Result<usize, SourceFailed> {
-        match self.read(buf) {
+        match self.read_or_go_back(buf) {
             Ok(count) => Ok(count),
             Err(_) => {
                 self.faults = self.faults.saturating_add(1);

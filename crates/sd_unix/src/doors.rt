@@ -8,6 +8,7 @@ use std::alloc::{Alloc, Global};
 use std::fs::Files;
 use std::io;
 use std::net::Net;
+use std::sync::Wait;
 use std::time::Clock;
 
 /// Two doors on Unix sockets: the administrator's at a path, with mode 0600, and beside it at `PATH.public`,
@@ -20,7 +21,7 @@ pub struct UnixDoors<'r, R: Files + Net + Clock> {
     faults: u64,
 }
 
-impl<'r, R: Files + Net + Clock + Alloc<A = Global>> UnixDoors<'r, R> {
+impl<'r, R: Files + Net + Clock + Wait + Alloc<A = Global>> UnixDoors<'r, R> {
     /// Opens both doors.
     pub fn open(rt: &'r R, path: &str) -> io::Result<UnixDoors<'r, R>>
         ensures gave { IfOk result (λ doors. ⟦<UnixDoors<'r, R> as Doors>⟧.gave doors ≡ false) }
@@ -54,8 +55,8 @@ impl<'r, R: Files + Net + Clock + Alloc<A = Global>> UnixDoors<'r, R> {
 }
 
 /// No connection is ever told to be the last: clients may always come.
-impl<'r, R: Files + Net + Clock + Alloc<A = Global>> Doors for UnixDoors<'r, R> {
-    type In = ClientSource;
+impl<'r, R: Files + Net + Clock + Wait + Alloc<A = Global>> Doors for UnixDoors<'r, R> {
+    type In = ClientSource<'r, R>;
 
     type Out = ClientSink;
 
@@ -66,7 +67,7 @@ impl<'r, R: Files + Net + Clock + Alloc<A = Global>> Doors for UnixDoors<'r, R> 
     ghost faults = { λ d. d.faults };
 
     /// Where the system has no descriptor left for a client, it is tried again after a pause.
-    fn accept(&mut self) -> Result<Option<(ClientSource, ClientSink)>, DoorFailed> {
+    fn accept(&mut self) -> Result<Option<(ClientSource<'r, R>, ClientSink)>, DoorFailed> {
         match self.entrance.next_client() {
             Ok(client) => {
                 self.gave = true;

@@ -1,7 +1,8 @@
 //! The way in: two listening sockets, and the lobby behind them.
 ghost use Rattle.std.specs.Prelude.{◌≡◌, IfOk, IfSome};
 
-use crate::connection::{ClientSink, ClientSource, Visitor};
+use crate::callers::{Caller, Visitor, WayBack};
+use crate::connection::{ClientSink, ClientSource};
 use crate::lobby::{Guest, Lobby, MOST_GUESTS};
 use crate::socket::ListeningSocket;
 use mio::unix::SourceFd;
@@ -13,8 +14,7 @@ use std::io::ErrorKind;
 use std::net::Net;
 use std::os::fd::AsRawFd;
 use std::os::unix::net::{UnixListener, UnixStream};
-use std::sync::Arc;
-use std::sync::atomic::{AtomicBool, Ordering};
+use std::sync::{Arc, Wait};
 use std::time::{Clock, Duration, Instant};
 use std::{io, thread};
 
@@ -30,15 +30,10 @@ const MOST_EVENTS: usize = 64;
 const ADMINISTRATOR: usize = 0;
 
 const ANYONE: usize = 1;
-/// The number of the first guest.
-const FIRST_GUEST: usize = 2;
 
-/// Somebody who is connected.
-#[derive(Drop)]
-struct Caller {
-    stream: UnixStream,
-    visitor: Visitor,
-}
+const COMING_BACK: usize = 2;
+/// The number of the first guest.
+const FIRST_GUEST: usize = 3;
 
 /// What a try to accept came to.
 enum Accepted {
@@ -62,7 +57,7 @@ pub struct Entrance<'r, R: Files + Net + Clock> {
     lobby: Lobby<Caller>,
     next_guest: usize,
     opened: Instant,
-    ending: Arc<AtomicBool, Global>,
+    way_back: Arc<WayBack, Global>,
 }
 
 fn accept_at(listener: &UnixListener) -> Accepted {
@@ -77,17 +72,17 @@ fn out_of_memory(_error: Memory) -> io::Error {
     io::Error::from(ErrorKind::OutOfMemory)
 }
 
-/// What a caller sends and is sent, until `ending` is set; `out` is the caller's stream too.
-fn connection(
+/// What a caller sends and is sent; `out` is the caller's stream too.
+fn connection<'r, R: Wait>(
+    rt: &'r R,
     caller: Caller,
     out: UnixStream,
-    ending: Arc<AtomicBool, Global>,
-) -> io::Result<(ClientSource, ClientSink)>
-    ensures { IfOk result (λ made. (⟦<ClientSource as Source>⟧.faults made.0 ≡ 0) × (⟦<ClientSink as Sink>⟧.faults made.1 ≡ 0)) }
+    way_back: Arc<WayBack, Global>,
+) -> io::Result<(ClientSource<'r, R>, ClientSink)>
+    ensures { IfOk result (λ made. (⟦<ClientSource<'r, R> as Source>⟧.faults made.0 ≡ 0) × (⟦<ClientSink as Sink>⟧.faults made.1 ≡ 0)) }
 {
-    let Caller { stream, visitor } = caller;
     let sink = ClientSink::new(out)?;
-    Ok((ClientSource::new(stream, visitor, ending)?, sink))
+    Ok((ClientSource::new(rt, caller, way_back)?, sink))
 }
 
 fn watch(poll: &Poll, descriptor: i32, number: usize) -> io::Result<()> {
@@ -110,18 +105,18 @@ fn second_since(clock: &impl Clock, moment: &Instant) -> u64 {
     }
 }
 
-impl<'r, R: Files + Net + Clock + Alloc<A = Global>> Entrance<'r, R> {
+impl<'r, R: Files + Net + Clock + Wait + Alloc<A = Global>> Entrance<'r, R> {
     /// Listens at a path, for the administrator, and at `PATH.public`.
     pub fn open(rt: &'r R, path: &str) -> io::Result<Entrance<'r, R>> {
         let alloc = rt.alloc();
         let own = format!(in alloc; "{path}")?;
         let shared = format!(in alloc; "{path}.public")?;
         let lobby = Lobby::new(alloc).map_err(out_of_memory)?;
-        let ending = Arc::new(alloc, AtomicBool::new(false))?;
         let events = Events::with_capacity(alloc, MOST_EVENTS)?;
         let administrator = ListeningSocket::open(rt, own, OWN_MODE)?;
         let public = ListeningSocket::open(rt, shared, PUBLIC_MODE)?;
         let poll = Poll::new(rt)?;
+        let way_back = WayBack::new(alloc, poll.registry(), Token(COMING_BACK))?;
         watch(&poll, administrator.listener.as_raw_fd(), ADMINISTRATOR)?;
         watch(&poll, public.listener.as_raw_fd(), ANYONE)?;
         Ok(Entrance {
@@ -135,23 +130,43 @@ impl<'r, R: Files + Net + Clock + Alloc<A = Global>> Entrance<'r, R> {
             lobby,
             next_guest: FIRST_GUEST,
             opened: Instant::now(rt)?,
-            ending,
+            way_back: Arc::new(alloc, way_back)?,
         })
     }
 
     /// Lets somebody into the lobby. Who cannot be watched there is sent away.
-    fn let_in(&mut self, stream: UnixStream, visitor: Visitor) {
-        let number = self.next_guest;
-        if watch(&self.poll, stream.as_raw_fd(), number).is_err() {
+    fn let_in(&mut self, caller: Caller) {
+        let number = caller.number;
+        if watch(&self.poll, caller.stream.as_raw_fd(), number).is_err() {
             return;
         }
-        self.next_guest = number.wrapping_add(1).max(FIRST_GUEST);
         self.lobby.admit(Guest {
-            connection: Caller { stream, visitor },
+            connection: caller,
             number,
             came: second_since(self.rt, &self.opened),
             has_sent: false,
         });
+    }
+
+    /// Lets somebody in who was not here before.
+    fn welcome(&mut self, stream: UnixStream, visitor: Visitor) {
+        let number = self.next_guest;
+        self.next_guest = number.wrapping_add(1).max(FIRST_GUEST);
+        self.let_in(Caller {
+            stream,
+            visitor,
+            number,
+        });
+    }
+
+    /// Lets in who was served, and is idle.
+    fn let_back(&mut self) {
+        for _ in 0..MOST_GUESTS {
+            match self.way_back.take(self.rt) {
+                Some(caller) => self.let_in(caller),
+                None => return,
+            }
+        }
     }
 
     /// Makes room where the system lacks a descriptor: whoever has been silent for longest is sent away.
@@ -164,14 +179,14 @@ impl<'r, R: Files + Net + Clock + Alloc<A = Global>> Entrance<'r, R> {
     fn answer_doors(&mut self) {
         if self.is_administrator_waiting {
             match accept_at(&self.administrator.listener) {
-                Accepted::Came(stream) => self.let_in(stream, Visitor::Administrator),
+                Accepted::Came(stream) => self.welcome(stream, Visitor::Administrator),
                 Accepted::Nobody => self.is_administrator_waiting = false,
                 Accepted::Failed => self.make_room(),
             }
         }
         if self.is_anyone_waiting {
             match accept_at(&self.public.listener) {
-                Accepted::Came(stream) => self.let_in(stream, Visitor::Anyone),
+                Accepted::Came(stream) => self.welcome(stream, Visitor::Anyone),
                 Accepted::Nobody => self.is_anyone_waiting = false,
                 Accepted::Failed => self.make_room(),
             }
@@ -197,6 +212,7 @@ impl<'r, R: Files + Net + Clock + Alloc<A = Global>> Entrance<'r, R> {
             match event.token() {
                 Token(ADMINISTRATOR) => self.is_administrator_waiting = true,
                 Token(ANYONE) => self.is_anyone_waiting = true,
+                Token(COMING_BACK) => {}
                 Token(number) => self.lobby.note_sent(number),
             }
         }
@@ -225,8 +241,8 @@ impl<'r, R: Files + Net + Clock + Alloc<A = Global>> Entrance<'r, R> {
     }
 
     /// The first client of the lobby that sent something.
-    fn take_client(&mut self) -> Option<(ClientSource, ClientSink)>
-        ensures { IfSome result (λ made. (⟦<ClientSource as Source>⟧.faults made.0 ≡ 0) × (⟦<ClientSink as Sink>⟧.faults made.1 ≡ 0)) }
+    fn take_client(&mut self) -> Option<(ClientSource<'r, R>, ClientSink)>
+        ensures { IfSome result (λ made. (⟦<ClientSource<'r, R> as Source>⟧.faults made.0 ≡ 0) × (⟦<ClientSink as Sink>⟧.faults made.1 ≡ 0)) }
     {
         let Guest {
             connection: caller,
@@ -236,13 +252,13 @@ impl<'r, R: Files + Net + Clock + Alloc<A = Global>> Entrance<'r, R> {
         } = self.lobby.take_sent()?;
         forget(&self.poll, caller.stream.as_raw_fd()).ok()?;
         let out = self.copy_of(&caller.stream).ok()?;
-        let ending = Arc::try_clone(&self.ending).ok()?;
-        connection(caller, out, ending).ok()
+        let way_back = Arc::try_clone(&self.way_back).ok()?;
+        connection(self.rt, caller, out, way_back).ok()
     }
 
     /// The next client.
-    pub fn next_client(&mut self) -> io::Result<(ClientSource, ClientSink)>
-        ensures { IfOk result (λ made. (⟦<ClientSource as Source>⟧.faults made.0 ≡ 0) × (⟦<ClientSink as Sink>⟧.faults made.1 ≡ 0)) }
+    pub fn next_client(&mut self) -> io::Result<(ClientSource<'r, R>, ClientSink)>
+        ensures { IfOk result (λ made. (⟦<ClientSource<'r, R> as Source>⟧.faults made.0 ≡ 0) × (⟦<ClientSink as Sink>⟧.faults made.1 ≡ 0)) }
     {
         for _ in 0..u64::MAX {
             if let Some(made) = self.take_client() {
@@ -250,6 +266,7 @@ impl<'r, R: Files + Net + Clock + Alloc<A = Global>> Entrance<'r, R> {
             }
             self.answer_doors();
             self.look()?;
+            self.let_back();
             self.send_silent_away();
         }
         Err(io::Error::from(ErrorKind::Other))
@@ -257,7 +274,7 @@ impl<'r, R: Files + Net + Clock + Alloc<A = Global>> Entrance<'r, R> {
 
     /// From now on the connections that were given end once their clients are between two frames.
     pub fn wind_down(&self) {
-        self.ending.store(true, Ordering::SeqCst);
+        self.way_back.end();
     }
 
     /// Takes both sockets away.

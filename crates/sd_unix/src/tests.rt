@@ -40,6 +40,13 @@ fn frames_pass_their_doors(rt: HostRuntime) -> Result<(), Fail> {
     other.write_all(&offline)?;
     assert_eq!(rt; asked.take(&mut buf), Err(SourceFailed));
 
+    // Who is idle goes back to the lobby, and comes in anew with what it sends then.
+    assert_eq!(rt; source.take(&mut buf), Ok(0));
+    client.write_all(&offline)?;
+    let (mut again, _) = next(&mut doors)?;
+    assert_eq!(rt; again.take(&mut buf), Ok(5));
+    assert_eq!(rt; source.take(&mut buf), Ok(0));
+
     assert!(rt; UnixDoors::open(&rt, path).is_err());
     doors.close();
     assert!(rt; fs::metadata(&rt, path).is_err());
