@@ -1,8 +1,7 @@
 -- What words are that ask for something.
-use Rattle.std.proofs.Common.{◌≡◌, ◌≢◌, ℕ, Bool, true, false, cond, List, [], ◌∷◌, Option, Some, None, refl, subst}
+use Rattle.std.proofs.Common.{◌≡◌, ◌≢◌, ℕ, Bool, true, false, cond, List, [], ◌∷◌, Some, None, refl, subst}
 use Rattle.std.specs.Prelude.{codes}
 use Rattle.sd_netgroup.specs.Words.{question_of}
-use Rattle.sd_netgroup.specs.declared.words.Question.{Question}
 use Rattle.sd_rules.specs.Keys.{same_name}
 use Rattle.sd_idmap.specs.Endings.{is_idmap}
 use Rattle.sd_scenario.specs.Endings.{is_scenario}

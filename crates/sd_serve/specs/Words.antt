@@ -1,5 +1,5 @@
 -- Which words ask for what.
-use Rattle.std.specs.Prelude.{◌≡◌, ◌≢◌, ◌≤◌, ◌⊎◌, ℕ, Bool, true, false, codes, List, [], ◌∷◌, None, if◌then◌else◌}
+use Rattle.std.specs.Prelude.{◌≡◌, ◌≢◌, ◌≤◌, ℕ, Bool, true, false, codes, List, [], ◌∷◌, None, if◌then◌else◌}
 use Rattle.sd_rules.specs.Keys.{same_name}
 use Rattle.sd_tools.specs.Options.{requests_of}
 use Rattle.sd_tools.specs.Queries.{query_of}
