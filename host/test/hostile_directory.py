@@ -12,7 +12,9 @@ of them; else by the word in front of the dash.
 
 A name `bind-WORD-N` is there, and WORD is how its bind is answered. Any other name is not. The dice of an answer are
 those of SEED, the name and how often it was asked. Once its standard input ends, it prints how often it answered by each
-word, as WORD COUNT .., and ends."""
+word, as JSON, and ends."""
+import contextlib
+import json
 import os
 import random
 import re
@@ -31,6 +33,8 @@ FALSE_LENGTHS = (b"\x80", b"\x00", b"\x01", b"\x7f", b"\x81\x05", b"\x83\xff\xff
                  b"\x84\x01\x00\x00\x01", b"\x84\xff\xff\xff\xff", b"\x85\x00\x00\x00\x00\x10", b"\xff")
 CODES = (1, 3, 4, 10, 32, 50, 51, 52, 53, 80, 90, 4096, 2 ** 31 - 1, 2 ** 32 - 1)
 MEMBERS = 300
+# How it can answer; what a mutated name asks for by another word is answered as it should.
+WORDS = ("mutated", "cut", "reset", "length", "deep", "code", "many", "notice", "others", "references", "entries", "drip", "silent")
 
 
 def user_dn(name):
@@ -150,7 +154,7 @@ class Connection(threading.Thread):
             send(whole)
             return
         dice = self.dice(name)
-        self.note(word)
+        self.note(word if word in WORDS else "rest")
         if word == "mutated":
             send(mutated(dice, whole))
             # What it may still wait for does not come.
@@ -210,7 +214,8 @@ def main():
     # Each process ends with the one that started the first.
     sys.stdin.buffer.read()
     if is_first:
-        print(*(part for word in sorted(Connection.answered) for part in (word, Connection.answered[word])), flush=True)
+        with contextlib.suppress(BrokenPipeError):
+            print(json.dumps(Connection.answered, sort_keys=True), flush=True)
     os._exit(0)
 
 
