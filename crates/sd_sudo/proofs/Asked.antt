@@ -6,14 +6,13 @@ use Rattle.sd_base.specs.declared.Why.TheVariants as whys
 use Rattle.sd_ldap.specs.declared.entry.DirEntry.{DirEntry}
 use Rattle.sd_ldap.specs.Values.{SearchValue}
 use Rattle.sd_match.specs.Answering.{found, sent}
-use Rattle.sd_dial.specs.Entries.{Behind}
 use Rattle.sd_dial.specs.declared.searched.Searched.{Searched}
 use Rattle.sd_dial.specs.declared.searched.Searched.TheVariants as searches
 use Rattle.sd_client.specs.Talk.{Talk}
 use Rattle.sd_asking.specs.Rooms.{AreShort}
 use Rattle.sd_stub.specs.declared.Mode.TheVariants as modes
 use Rattle.sd_stub_link.specs.Distinct.{have_own_dns}
-use Rattle.sd_stub_link.specs.Standing.{Standing, made, rest_of, coming_of, behind_of}
+use Rattle.sd_stub_link.specs.Standing.{Standing, rest_of, coming_of}
 use Rattle.sd_nested.specs.Searches.{IsAnswer}
 use Rattle.sd_fetch.specs.Exchanging.{Exchange, Went, Gave}
 use Rattle.sd_fetch.specs.Told.{IsLimit}

@@ -2,13 +2,13 @@
 use Rattle.std.specs.Prelude.{filter, codes, not}
 use Rattle.std.proofs.Common.{◌≡◌, ℕ, Bool, true, false, cond, ◌&&◌, ◌||◌, List, [], ◌∷◌, ◌++◌, map, Option, Some, None, refl, sym, ap, ◌∙◌}
 use Rattle.std.specs.List.{list_any, flat_map}
-use Rattle.sd_dn.specs.Comparing.{same_text, ends_with}
-use Rattle.sd_dn.specs.Texts.{spelled, both_meet}
+use Rattle.sd_dn.specs.Comparing.{same_text}
+use Rattle.sd_dn.specs.Texts.{spelled}
 use Rattle.sd_ldap.specs.declared.entry.Attribute.{Attribute}
 use Rattle.sd_ldap.specs.declared.entry.DirEntry.{DirEntry}
 use Rattle.sd_entry.specs.Values.{first_of, has_class}
 use Rattle.sd_match.specs.Matching.{matches}
-use Rattle.sd_match.specs.Answering.{is_password, is_sent, sent_attributes, sent, in_scope, is_at_or_under, is_found, found}
+use Rattle.sd_match.specs.Answering.{is_password, is_sent, sent_attributes, sent, is_at_or_under, is_found, found}
 use Rattle.sd_nested.proofs.Same.{texts_same}
 use Rattle.sd_fetch.proofs.Sent.{IsKept, sent_are, says_sent, first_sent}
 use Rattle.sd_fetch.proofs.Found.{whole_scope}

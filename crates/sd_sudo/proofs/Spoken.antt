@@ -1,11 +1,11 @@
 -- Whether the triples of a netgroup speak of a user.
-use Rattle.std.proofs.Common.{◌≡◌, ℕ, Bool, true, false, List, [], ◌∷◌, Some, None, refl, sym, ap, ◌∙◌, subst}
+use Rattle.std.proofs.Common.{◌≡◌, ℕ, Bool, true, false, List, [], ◌∷◌, Some, None, sym, ◌∙◌}
 use Rattle.sd_ldap.specs.declared.entry.DirEntry.{DirEntry}
 use Rattle.sd_triples.specs.declared.triples.Triple.{Triple}
 use Rattle.sd_triples.specs.Matching.{speaks_of, is_in}
 use Rattle.sd_nested.proofs.In.{in_any, any_in}
 use Rattle.sd_netgroup.specs.Named.{named_in}
-use Rattle.sd_netgroup.specs.Paths.{In, IsEnd, AreTriplesOf}
+use Rattle.sd_netgroup.specs.Paths.{In, AreTriplesOf}
 use Rattle.sd_netgroup.specs.Rounds.{is_some}
 use Rattle.sd_netgroup.specs.Endings.{AreFound, IsAbsent}
 use Rattle.sd_sudo.specs.Standing.{StandsIn, IsSo}
