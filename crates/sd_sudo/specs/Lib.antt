@@ -1,0 +1,9 @@
+pub mod Searches
+pub mod Listing
+pub mod Lookups
+pub mod Asking
+pub mod Askers
+pub mod Speaking
+pub mod Standing
+pub mod Applied
+pub mod Printing
