@@ -1,6 +1,7 @@
 -- What words are that ask for something.
 use Rattle.std.proofs.Common.{◌≡◌, ◌≢◌, ℕ, Bool, true, false, cond, List, [], ◌∷◌, Some, None, refl, subst}
 use Rattle.std.specs.Prelude.{codes}
+use Rattle.sd_ldap_server.specs.Addresses.{is_address}
 use Rattle.sd_netgroup.specs.Words.{question_of}
 use Rattle.sd_rules.specs.Keys.{same_name}
 use Rattle.sd_idmap.specs.Endings.{is_idmap}
@@ -19,11 +20,15 @@ Says kinds.Netgroup tool operand rest = question_of (tool ∷ operand ∷ rest) 
 Says kinds.Query tool operand rest = Unit {0}
 Says kinds.Cache tool operand rest = Unit {0}
 Says kinds.Serve tool operand rest = Unit {0}
+Says kinds.Directory tool operand rest = Unit {0}
 Says kinds.Unknown tool operand rest = Unit {0}
 
-by_three : (a : Bool) (P : Kind → Type 0) → P kinds.Serve → P kinds.Unknown → P (cond a kinds.Serve kinds.Unknown)
-by_three true P s u = s
-by_three false P s u = u
+by_three : (a b c : Bool) (P : Kind → Type 0) → P kinds.Serve → P kinds.Directory → P kinds.Unknown
+    → P (cond a kinds.Serve (cond b (cond c kinds.Directory kinds.Unknown) kinds.Unknown))
+by_three true b c P s d u = s
+by_three false true true P s d u = d
+by_three false true false P s d u = u
+by_three false false c P s d u = u
 
 by_four : (a b : Bool) (P : Kind → Type 0) → P kinds.Serve → (b ≡ true → P kinds.Netgroup) → P kinds.Unknown
     → P (cond a kinds.Serve (cond b kinds.Netgroup kinds.Unknown))
@@ -46,7 +51,8 @@ asked_where false x e none = cc
 
 by_rest : (tool operand : List ℕ) (rest : List (List ℕ)) → Says (kind_by_rest tool rest) tool operand rest
 by_rest tool operand [] = tt
-by_rest tool operand (third ∷ []) = by_three (same_name tool (codes "serve")) (λ k. Says k tool operand (third ∷ [])) tt tt
+by_rest tool operand (third ∷ []) =
+    by_three (same_name tool (codes "serve")) (same_name tool (codes "directory")) (is_address third) (λ k. Says k tool operand (third ∷ [])) tt tt tt
 by_rest tool operand (third ∷ fourth ∷ []) =
     by_four (same_name tool (codes "serve")) (same_name tool (codes "netgroup")) (λ k. Says k tool operand (third ∷ fourth ∷ [])) tt
     (asked_where (same_name tool (codes "netgroup")) _) tt

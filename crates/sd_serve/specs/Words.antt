@@ -1,5 +1,6 @@
 -- Which words ask for what.
 use Rattle.std.specs.Prelude.{◌≡◌, ◌≢◌, ◌≤◌, ℕ, Bool, true, false, codes, List, [], ◌∷◌, None, if◌then◌else◌}
+use Rattle.sd_ldap_server.specs.Addresses.{is_address}
 use Rattle.sd_rules.specs.Keys.{same_name}
 use Rattle.sd_tools.specs.Options.{requests_of}
 use Rattle.sd_tools.specs.Queries.{query_of}
@@ -15,9 +16,16 @@ kind_of_word word =
     else if same_name word (codes "--version") then kinds.Version
     else kinds.Unknown
 
+-- a directory is served where its address has a form
+abbrev pub kind_by_address : List ℕ → Kind
+kind_by_address address = if is_address address then kinds.Directory else kinds.Unknown
+
 -- three words in all
-abbrev pub kind_of_three : List ℕ → Kind
-kind_of_three word = if same_name word (codes "serve") then kinds.Serve else kinds.Unknown
+abbrev pub kind_of_three : List ℕ → List ℕ → Kind
+kind_of_three word third =
+    if same_name word (codes "serve") then kinds.Serve
+    else if same_name word (codes "directory") then kind_by_address third
+    else kinds.Unknown
 
 -- four
 abbrev pub kind_of_four : List ℕ → Kind
@@ -32,7 +40,7 @@ kind_of_seven word = if same_name word (codes "innetgr") then kinds.Netgroup els
 
 -- by the words behind the second
 abbrev pub kind_by_rest : List ℕ → List (List ℕ) → Kind
-kind_by_rest word (third ∷ []) = kind_of_three word
+kind_by_rest word (third ∷ []) = kind_of_three word third
 kind_by_rest word (third ∷ fourth ∷ []) = kind_of_four word
 kind_by_rest word (third ∷ fourth ∷ fifth ∷ sixth ∷ seventh ∷ []) = kind_of_seven word
 kind_by_rest word _ = kinds.Unknown
@@ -49,7 +57,7 @@ kind_of [] = kinds.Unknown
 kind_of (word ∷ []) = kind_of_word word
 kind_of (tool ∷ operand ∷ rest) = kind_of_tool tool rest
 
--- the word behind the first: the path of a socket, or of a configuration
+-- the word behind the first: the path of a socket, of a configuration or of an LDIF
 abbrev pub operand_of : List (List ℕ) → List ℕ
 operand_of (tool ∷ operand ∷ rest) = operand
 operand_of _ = []
@@ -83,6 +91,20 @@ HasNoForm words = LacksForm (kind_of words) (behind_operand words)
 abbrev pub is_stop : List (List ℕ) → Bool
 is_stop (word ∷ []) = same_name word (codes "stop")
 is_stop _ = false
+
+-- the words need nothing of the host: neither files, nor a store, nor clients
+abbrev pub NeedsNoHost : Kind → Type 0
+NeedsNoHost kinds.Serve = ⊥
+NeedsNoHost kinds.Netgroup = ⊥
+NeedsNoHost kinds.Directory = ⊥
+NeedsNoHost _ = Unit {0}
+
+-- the words read the input
+abbrev pub ReadsInput : Kind → Type 0
+ReadsInput kinds.Scenario = Unit {0}
+ReadsInput kinds.Idmap = Unit {0}
+ReadsInput kinds.Query = Unit {0}
+ReadsInput _ = ⊥
 
 -- the statuses of the program: 0, and 2 to 16
 abbrev pub IsStatus : ℕ → Type 0

@@ -2,6 +2,7 @@
 #![tactic(auto)]
 
 pub mod commands;
+pub mod directories;
 mod files;
 pub mod netgroups;
 pub mod outside;

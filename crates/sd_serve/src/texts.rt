@@ -6,6 +6,7 @@ scenario                    play the scenario that standard input gives
 idmap                       number the SIDs that standard input gives
 netgroup CONF LDIF NAME     the triples of a netgroup in the entries of an LDIF
 innetgr CONF LDIF NAME HOST USER DOMAIN     whether these are in it; `*` asks nothing of a field
+directory LDIF HOST:PORT    serve the entries of an LDIF over LDAP
 serve CONF SOCKET [STORE]   serve clients on a Unix socket, by a configuration; STORE keeps over a restart what is known
 query SOCKET user NAME      look a user up
 query SOCKET uid N          look a user up by number

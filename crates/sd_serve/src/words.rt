@@ -2,6 +2,8 @@
 ghost use Rattle.std.specs.Prelude.{◌≡◌, is_some, map, string_bytes};
 ghost use Rattle.sd_serve.specs.Words as forms;
 
+use sd_ldap_server::is_address;
+
 /// What words ask for.
 #[derive(Clone, Copy, Debug, PartialEq, Eq)]
 pub enum Kind {
@@ -11,6 +13,7 @@ pub enum Kind {
     Idmap,
     /// `netgroup` and `innetgr`.
     Netgroup,
+    Directory,
     Query,
     Cache,
     Serve,
@@ -34,11 +37,23 @@ fn kind_of_word(word: &[u8]) -> Kind
     }
 }
 
-fn kind_of_three(word: &[u8]) -> Kind
-    ensures { result ≡ forms.kind_of_three word.now }
+fn kind_by_address(address: &[u8]) -> Kind
+    ensures { result ≡ forms.kind_by_address address.now }
+{
+    if is_address(address) {
+        Kind::Directory
+    } else {
+        Kind::Unknown
+    }
+}
+
+fn kind_of_three(word: &[u8], third: &[u8]) -> Kind
+    ensures { result ≡ forms.kind_of_three word.now third.now }
 {
     if word == b"serve".as_slice() {
         Kind::Serve
+    } else if word == b"directory".as_slice() {
+        kind_by_address(third)
     } else {
         Kind::Unknown
     }
@@ -71,7 +86,7 @@ fn kind_by_rest(word: &[u8], rest: &[String]) -> Kind
     ensures { result ≡ forms.kind_by_rest word.now (map string_bytes rest.now) }
 {
     match rest {
-        [_third] => kind_of_three(word),
+        [third] => kind_of_three(word, third.as_bytes()),
         [_third, _fourth] => kind_of_four(word),
         [_third, _fourth, _fifth, _sixth, _seventh] => kind_of_seven(word),
         _ => Kind::Unknown,
