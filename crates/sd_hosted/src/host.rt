@@ -3,7 +3,7 @@ ghost use Rattle.std.specs.Prelude.{◌≡◌, false, None};
 
 use crate::doors::{Coming, WorkedDoors};
 use crate::keeper::CountedKeeper;
-use sd_base::{Blobs, Copied, Memory, MemorySource, Numbers, SourceFailed};
+use sd_base::{Blobs, Copied, Memory, MemorySource, Numbers, Source, SourceFailed};
 use sd_clock::{MemoryClock, OpenGate};
 use sd_conf::Config;
 use sd_daemon::Host;
@@ -53,6 +53,29 @@ impl<'a> Equipment for WorkedTools<'a> {
     }
 }
 
+/// The configuration, from its beginning. It tells no content.
+#[derive(Drop)]
+pub struct ConfSource {
+    source: MemorySource,
+    faults: u64,
+}
+
+impl Source for ConfSource {
+    ghost left = { λ _. None };
+
+    ghost faults = { λ s. s.faults };
+
+    fn take(&mut self, buf: &mut [u8]) -> Result<usize, SourceFailed> {
+        match self.source.take(buf) {
+            Ok(count) => Ok(count),
+            Err(SourceFailed) => {
+                self.faults = self.faults.saturating_add(1);
+                Err(SourceFailed)
+            }
+        }
+    }
+}
+
 /// A host in memory. It tells no content.
 #[derive(Drop)]
 pub struct WorkedHost<'a, R> {
@@ -76,7 +99,7 @@ pub struct WorkedHost<'a, R> {
 }
 
 impl<'a, R: Wait + Sync> Host for WorkedHost<'a, R> {
-    type File = MemorySource;
+    type File = ConfSource;
 
     type Door = WorkedDoors<'a, R>;
 
@@ -97,12 +120,19 @@ impl<'a, R: Wait + Sync> Host for WorkedHost<'a, R> {
     ghost stored = { λ h. record { blobs = None; faults = h.store_faults; failed = h.store_failed } };
 
     /// The configuration, whatever the path.
-    fn file(&mut self, _path: &str) -> Result<MemorySource, SourceFailed> {
+    fn file(&mut self, _path: &str) -> Result<ConfSource, SourceFailed> {
         let conf = mem::replace(&mut self.conf, Vec::new(self.alloc));
-        Ok(MemorySource::new(conf, Numbers::new(self.alloc)))
+        Ok(ConfSource {
+            source: MemorySource::new(conf, Numbers::new(self.alloc)),
+            faults: 0,
+        })
     }
 
-    fn done_file(&mut self, _file: MemorySource) {}
+    fn done_file(&mut self, file: ConfSource) {
+        if file.faults > 0 {
+            self.source_faults = self.source_faults.saturating_add(1);
+        }
+    }
 
     fn seed(&mut self) -> Result<[u8; 32], SourceFailed> {
         Ok([0x73; 32])

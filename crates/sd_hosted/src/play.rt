@@ -180,10 +180,10 @@ impl<'r, R: Threads + Wait + Sync> Player<'r, R> {
     }
 
     /// Lets a daemon serve to its end; gives its status and its keeper.
-    fn serve(
-        &self,
+    fn serve<'x>(
+        &'x self,
         case: Case,
-        lists: &[Mutex<Vec<u8>>],
+        lists: &'x [Mutex<Vec<u8>>],
         sink: &mut MemorySink,
     ) -> Result<(u8, Option<CountedKeeper>), Memory> {
         let alloc = self.alloc;
@@ -193,7 +193,7 @@ impl<'r, R: Threads + Wait + Sync> Player<'r, R> {
             StoreWord::Own | StoreWord::Again => Some("store"),
         };
         let mut host = WorkedHost {
-            rt: self.rt,
+            rt: &*self.rt,
             alloc,
             conf: case.conf,
             directory: &self.directory,
