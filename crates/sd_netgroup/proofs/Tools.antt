@@ -6,8 +6,14 @@ use Rattle.sd_ldap.specs.declared.entry.DirEntry.{DirEntry}
 use Rattle.sd_tools.specs.declared.endings.TheConstants.{WRITE_FAULT}
 use Rattle.sd_netgroup.specs.declared.inputs.Stop.TheVariants as stops
 use Rattle.sd_netgroup.specs.declared.words.Question.{Question}
-use Rattle.sd_netgroup.specs.Inputs.{IsBase, AreEntries}
+use Rattle.sd_conf.specs.declared.config.Config.{Config}
+use Rattle.sd_netgroup.specs.Inputs.{IsConfig, IsBase, AreEntries}
 use Rattle.sd_netgroup.specs.Endings.{Ends, IsEnding, StopsAt, OfInputs}
+
+-- the base of a configuration
+pub base_told : (conf : Option (List ℕ)) (config : Config) (base : List ℕ) → base ≡ config.base → IfSome conf (λ c. IsConfig c config) → IfSome conf (λ c. IsBase c base)
+base_told None config base e h = tt
+base_told (Some c) config base e h = record { config = config; is_config = h; is = e }
 
 -- what holds of the texts that both inputs tell
 pub both_told : (conf ldif : Option (List ℕ)) (base : List ℕ) (read : List DirEntry) (P : List ℕ → List ℕ → Type 0) → IfSome conf (λ c. IsBase c base) → IfSome ldif (λ l. AreEntries l read)
@@ -22,7 +28,8 @@ no_cause None ldif = tt
 no_cause (Some c) None = tt
 no_cause (Some c) (Some l) = tt
 
-told_by : (conf ldif : Option (List ℕ)) (P R : List ℕ → List ℕ → Type 0) → IfSome conf (λ c. IfSome ldif (λ l. P c l)) → ((c l : List ℕ) → P c l → R c l) → IfSome conf (λ c. IfSome ldif (λ l. R c l))
+-- what follows from it
+pub told_by : (conf ldif : Option (List ℕ)) (P R : List ℕ → List ℕ → Type 0) → IfSome conf (λ c. IfSome ldif (λ l. P c l)) → ((c l : List ℕ) → P c l → R c l) → IfSome conf (λ c. IfSome ldif (λ l. R c l))
 told_by None ldif P R h f = tt
 told_by (Some c) None P R h f = tt
 told_by (Some c) (Some l) P R h f = f c l h

@@ -19,11 +19,15 @@ conf_limit = 1048576
 abbrev pub ldif_limit : ℕ
 ldif_limit = 67108864
 
--- a configuration is taken, and has this search base
-pub record IsBase (conf base : List ℕ) : Type 0 where
+-- a configuration is taken
+pub record IsConfig (conf : List ℕ) (config : Config) : Type 0 where
   pub within : length conf ≤ conf_limit
-  pub config : Config
   pub taken : conf_of conf ≡ Ok config
+
+-- it has this search base
+pub record IsBase (conf base : List ℕ) : Type 0 where
+  pub config : Config
+  pub is_config : IsConfig conf config
   pub is : base ≡ config.base
 
 -- entries are taken

@@ -57,8 +57,9 @@ fn answer_of(netted: Netted) -> Result<Answer, Memory>
     }
 }
 
-/// Asks over a link to a directory. A link that finds no memory is want of memory.
-fn look_over(
+/// What a directory says of a netgroup, asked for over a link of its own. A link that finds no memory is want of
+/// memory.
+pub fn look_over(
     alloc: Global,
     directory: &Directory,
     base: &Text,

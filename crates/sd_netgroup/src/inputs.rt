@@ -4,7 +4,7 @@ ghost use Rattle.sd_base.specs.Causes.{Rose};
 ghost use Rattle.sd_netgroup.specs.Inputs as inputs;
 
 use sd_base::{Copied, Memory, ReadEnd, Source, Text, read_all};
-use sd_conf::{ConfFault, read_conf};
+use sd_conf::{ConfFault, Config, read_conf};
 use sd_ldap::DirEntries;
 use sd_ldif::{LdifFault, read_ldif};
 use sd_wire::fields::{push_bytes, push_numbered};
@@ -121,14 +121,14 @@ fn ldif_refused(alloc: Global, fault: LdifFault) -> Result<Text, Memory>
     refused(alloc, ldif_name(fault), &value)
 }
 
-/// The search base of a configuration.
-fn base_of(alloc: Global, conf: &[u8]) -> Result<Text, Stop>
+/// The configuration that a text has.
+fn config_of(alloc: Global, conf: &[u8]) -> Result<Config, Stop>
     requires { length conf.now ≤ CONF_LIMIT }
-    ensures base { IfOk result (λ base. inputs.IsBase conf.now base) }
+    ensures config { IfOk result (λ config. inputs.IsConfig conf.now config) }
     ensures stop { IfErr result (λ stop. inputs.StopsReadConf stop conf.now) }
 {
     match read_conf(alloc, conf) {
-        Ok(config) => Ok(config.base.copy()?),
+        Ok(config) => Ok(config),
         Err(ConfFault::Memory) => Err(Stop::Memory),
         Err(fault) => Err(Stop::Refused(conf_refused(alloc, &fault)?)),
     }
@@ -147,18 +147,29 @@ fn entries_of(alloc: Global, ldif: &[u8]) -> Result<DirEntries, Stop>
     }
 }
 
+/// Reads a configuration to its end.
+pub fn read_config<S: Source>(alloc: Global, conf: &mut S) -> Result<Config, Stop>
+    ensures config { IfOk result (λ config. IfSome (S.left conf.old) (λ text. inputs.IsConfig text config)) }
+    ensures stop { IfErr result (λ stop. IfSome (S.left conf.old) (λ text. inputs.StopsConf stop text)) }
+    ensures fault { result ≡ Err Stop.ReadFault → Rose (S.faults conf.old) (S.faults conf.new) }
+{
+    match read_all(alloc, conf, CONF_LIMIT) {
+        Ok(text) => config_of(alloc, text.as_slice()),
+        Err(ReadEnd::Failed) => Err(Stop::ReadFault),
+        Err(ReadEnd::TooLong) => Err(Stop::TooLong),
+        Err(ReadEnd::Memory) => Err(Stop::Memory),
+    }
+}
+
+#[tactic(auto, using(crate::proofs::Tools::base_told))]
 /// Reads a configuration to its end, for its search base.
 pub fn read_base<S: Source>(alloc: Global, conf: &mut S) -> Result<Text, Stop>
     ensures base { IfOk result (λ base. IfSome (S.left conf.old) (λ text. inputs.IsBase text base)) }
     ensures stop { IfErr result (λ stop. IfSome (S.left conf.old) (λ text. inputs.StopsConf stop text)) }
     ensures fault { result ≡ Err Stop.ReadFault → Rose (S.faults conf.old) (S.faults conf.new) }
 {
-    match read_all(alloc, conf, CONF_LIMIT) {
-        Ok(text) => base_of(alloc, text.as_slice()),
-        Err(ReadEnd::Failed) => Err(Stop::ReadFault),
-        Err(ReadEnd::TooLong) => Err(Stop::TooLong),
-        Err(ReadEnd::Memory) => Err(Stop::Memory),
-    }
+    let config = read_config(alloc, conf)?;
+    Ok(config.base.copy()?)
 }
 
 /// Reads entries to their end (RFC 2849).

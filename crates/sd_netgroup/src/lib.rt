@@ -14,5 +14,7 @@ mod tool;
 mod words;
 
 pub use asking::{Netted, netgroup};
+pub use directory::{Answer, look_over};
+pub use inputs::{Stop, read_config, read_entries};
 pub use sd_triples::{Triple, TripleFault, Triples, in_netgroup, read_triple};
-pub use tool::{DIRECTORY_LIMIT, NO_NETGROUP, REFUSED, netgroup_tool};
+pub use tool::{DIRECTORY_LIMIT, Ending, NO_NETGROUP, REFUSED, ending_with, netgroup_tool, stopped};

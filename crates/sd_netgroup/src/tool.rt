@@ -28,12 +28,13 @@ pub const DIRECTORY_LIMIT: Status = 16;
 
 /// A status, and what is written before it.
 #[derive(Debug, Drop)]
-struct Ending {
-    status: Status,
-    output: Text,
+pub struct Ending {
+    pub status: Status,
+    pub output: Text,
 }
 
-fn ending_with(alloc: Global, status: Status, output: &[u8]) -> Result<Ending, Memory>
+/// An ending of these bytes.
+pub fn ending_with(alloc: Global, status: Status, output: &[u8]) -> Result<Ending, Memory>
     ensures { IfOk result (λ ending. ending ≡ record { status = status; output = output.now }) }
 {
     Ok(Ending {
@@ -77,7 +78,7 @@ fn answered<S: Source>(
 }
 
 /// The ending where an input was not taken, unless it could not be read or memory was wanting.
-fn stopped(alloc: Global, stop: Stop) -> Result<Ending, Stop>
+pub fn stopped(alloc: Global, stop: Stop) -> Result<Ending, Stop>
     ensures ends { IfOk result (λ ending. StopEnds stop ending.status ending.output) }
     ensures known { IfOk result (λ ending. IsEnding ending.status) }
     ensures stops { IfErr result (λ left. (left ≡ Stop.Memory) ⊎ ((left ≡ Stop.ReadFault) × (stop ≡ Stop.ReadFault))) }

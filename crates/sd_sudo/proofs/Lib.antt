@@ -6,3 +6,5 @@ pub mod Folds
 pub mod Spoken
 pub mod Stood
 pub mod Halts
+pub mod Ruled
+pub mod Ends

@@ -7,3 +7,6 @@ pub mod Speaking
 pub mod Standing
 pub mod Applied
 pub mod Printing
+pub mod Answering
+pub mod Words
+pub mod Endings

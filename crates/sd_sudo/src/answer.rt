@@ -1,0 +1,82 @@
+//! What a directory says of the sudo rules of a user.
+ghost use Rattle.std.specs.Prelude.{◌≡◌, ℕ, List, IfOk, IfErr, Some};
+ghost use Rattle.std.specs.List.{list_any};
+ghost use Rattle.sd_stub.specs.Keeping.{kept};
+ghost use Rattle.sd_sudo.specs.Askers as askers;
+ghost use Rattle.sd_sudo.specs.Lookups.{HaltsBy};
+ghost use Rattle.sd_sudo.specs.Answering as answering;
+
+use crate::applied::rules_applied;
+use crate::asker::{asker_of, user_named};
+use crate::lookups::Halt;
+use crate::nets::{nets_asked, nets_with};
+use crate::roles::roles_under;
+use sd_base::Text;
+use sd_conf::Config;
+use sd_ldap::DirEntry;
+use sd_provider::short_directory;
+use sd_roles::Role;
+use sd_rules::User;
+use std::alloc::Global;
+
+/// What a directory says of the sudo rules of a user.
+#[derive(Debug, Drop)]
+pub enum Answer {
+    /// Nobody has the name, or more than one, or the configuration keeps it out.
+    NoUser,
+    /// The rules that apply, in their order.
+    Rules(Vec<Role>),
+}
+
+/// Whether the configuration keeps a name out.
+fn is_filtered(config: &Config, name: &Text) -> bool
+    ensures { result ≡ answering.is_filtered config.now name.now }
+{
+    let filtered = config.settings.filter_users.items();
+    filtered.iter().any(|other| other == name)
+}
+
+/// The rules that apply to the user of a name.
+fn rules_of(
+    alloc: Global,
+    config: &Config,
+    entries: &[DirEntry],
+    name: &Text,
+    user: User,
+) -> Result<Vec<Role>, Halt>
+    ensures rules { IfOk result (λ applied. answering.HasRules config.now (kept entries.now) name.now user applied.items) }
+    ensures halt { IfErr result (λ halt. HaltsBy halt (answering.MeetsFor config.now (kept entries.now) name.now user)) }
+{
+    let asker = asker_of(alloc, config, entries, name, user)?;
+    let directory = short_directory(alloc, entries)?;
+    let roles = roles_under(alloc, &directory, &config.base)?;
+    let asked = nets_asked(alloc, &roles)?;
+    let nets = nets_with(
+        alloc,
+        &directory,
+        &config.base,
+        &asker.user.name,
+        asked.as_slice(),
+    )?;
+    Ok(rules_applied(roles, &asker, &nets)?)
+}
+
+/// The sudo rules of the directory of these entries that apply to the user of a name. Nothing is sent for a name that
+/// the configuration keeps out. An entry of 4 GiB counts as want of memory.
+pub fn look(
+    alloc: Global,
+    config: &Config,
+    entries: &[DirEntry],
+    name: &Text,
+) -> Result<Answer, Halt>
+    ensures { answering.IsOutcome config.now (kept entries.now) name.now result }
+{
+    if is_filtered(config, name) {
+        return Ok(Answer::NoUser);
+    }
+    let Some(user) = user_named(alloc, config, entries, name)? else {
+        return Ok(Answer::NoUser);
+    };
+    let rules = rules_of(alloc, config, entries, name, user)?;
+    Ok(Answer::Rules(rules))
+}
