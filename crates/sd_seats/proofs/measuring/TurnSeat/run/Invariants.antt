@@ -1,0 +1,5 @@
+use Rattle.sd_turn.specs.Seats.{IsOwn, HoldsNoTurn}
+use Rattle.sd_seats.proofs.measuring.TurnSeat.run.Given as goal
+
+abbrev pub invariant-loop : goal.invariant-loop
+invariant-loop g l = IsOwn l.turn l.seat × HoldsNoTurn l.seat
