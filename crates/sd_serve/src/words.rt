@@ -2,6 +2,9 @@
 ghost use Rattle.std.specs.Prelude.{◌≡◌, is_some, map, string_bytes};
 ghost use Rattle.sd_serve.specs.Words as forms;
 
+use sd_ldap_server::is_address;
+use sd_load::requests_of;
+
 /// What words ask for.
 #[derive(Clone, Copy, Debug, PartialEq, Eq)]
 pub enum Kind {
@@ -11,6 +14,9 @@ pub enum Kind {
     Idmap,
     /// `netgroup` and `innetgr`.
     Netgroup,
+    Sudo,
+    Directory,
+    Storm,
     Query,
     Cache,
     Serve,
@@ -34,11 +40,36 @@ fn kind_of_word(word: &[u8]) -> Kind
     }
 }
 
-fn kind_of_three(word: &[u8]) -> Kind
-    ensures { result ≡ forms.kind_of_three word.now }
+fn kind_of_two(word: &[u8], second: &[u8]) -> Kind
+    ensures { result ≡ forms.kind_of_two word.now second.now }
+{
+    if word == b"storm".as_slice() {
+        match requests_of(second) {
+            Some(_) => Kind::Storm,
+            None => Kind::Unknown,
+        }
+    } else {
+        Kind::Unknown
+    }
+}
+
+fn kind_by_address(address: &[u8]) -> Kind
+    ensures { result ≡ forms.kind_by_address address.now }
+{
+    if is_address(address) {
+        Kind::Directory
+    } else {
+        Kind::Unknown
+    }
+}
+
+fn kind_of_three(word: &[u8], third: &[u8]) -> Kind
+    ensures { result ≡ forms.kind_of_three word.now third.now }
 {
     if word == b"serve".as_slice() {
         Kind::Serve
+    } else if word == b"directory".as_slice() {
+        kind_by_address(third)
     } else {
         Kind::Unknown
     }
@@ -51,6 +82,8 @@ fn kind_of_four(word: &[u8]) -> Kind
         Kind::Serve
     } else if word == b"netgroup".as_slice() {
         Kind::Netgroup
+    } else if word == b"sudo".as_slice() {
+        Kind::Sudo
     } else {
         Kind::Unknown
     }
@@ -67,26 +100,27 @@ fn kind_of_seven(word: &[u8]) -> Kind
 }
 
 /// What a word asks for that is no tool's, by how many words there are.
-fn kind_by_rest(word: &[u8], rest: &[String]) -> Kind
-    ensures { result ≡ forms.kind_by_rest word.now (map string_bytes rest.now) }
+fn kind_by_rest(word: &[u8], second: &[u8], rest: &[String]) -> Kind
+    ensures { result ≡ forms.kind_by_rest word.now second.now (map string_bytes rest.now) }
 {
     match rest {
-        [_third] => kind_of_three(word),
+        [] => kind_of_two(word, second),
+        [third] => kind_of_three(word, third.as_bytes()),
         [_third, _fourth] => kind_of_four(word),
         [_third, _fourth, _fifth, _sixth, _seventh] => kind_of_seven(word),
         _ => Kind::Unknown,
     }
 }
 
-fn kind_of_tool(tool: &[u8], rest: &[String]) -> Kind
-    ensures { result ≡ forms.kind_of_tool tool.now (map string_bytes rest.now) }
+fn kind_of_tool(tool: &[u8], operand: &[u8], rest: &[String]) -> Kind
+    ensures { result ≡ forms.kind_of_tool tool.now operand.now (map string_bytes rest.now) }
 {
     if tool == b"query".as_slice() {
         Kind::Query
     } else if tool == b"cache".as_slice() {
         Kind::Cache
     } else {
-        kind_by_rest(tool, rest)
+        kind_by_rest(tool, operand, rest)
     }
 }
 
@@ -97,7 +131,7 @@ pub fn kind_of(words: &[String]) -> Kind
     match words {
         [] => Kind::Unknown,
         [word] => kind_of_word(word.as_bytes()),
-        [tool, _operand, rest @ ..] => kind_of_tool(tool.as_bytes(), rest),
+        [tool, operand, rest @ ..] => kind_of_tool(tool.as_bytes(), operand.as_bytes(), rest),
     }
 }
 
