@@ -20,6 +20,7 @@ use Rattle.sd_netgroup.specs.Words.{question_of}
 use Rattle.sd_scenario.specs.Endings as ends
 use Rattle.sd_scenario.specs.Transcript as script
 use Rattle.sd_scenario.specs.declared.endings.TheConstants.{LIMIT, BAD_LINE, JOURNAL_FULL}
+use Rattle.sd_load.specs.Lines.{storm_lines}
 use Rattle.sd_storm.specs.Endings as storms
 use Rattle.sd_sudo.specs.Endings as rules
 use Rattle.sd_sudo.specs.Words.{user_asked}
@@ -136,12 +137,16 @@ pub record Directories {H N W : Type 0} (text_at : H → List ℕ → Option (Li
   -- the doors could not be made, or failed, and `door fault` was written
   pub door_fault : status ≡ DOOR_FAULT → Rose (door_faults network) (door_faults network') × Appends (held sink) (held sink') (codes "door fault\n")
 
--- `storm`: a load of so many requests, and what is printed of it.
+-- a load of so many requests, and what is printed of it
 pub record Storms {W : Type 0} (held : W → Option (List ℕ)) (requests : ℕ) (sink sink' : W) (status : ℕ) : Type 0 where
   pub status_is : storms.IsStatus status
   -- the four lines of so many requests were written, or a front of them where the sink failed
   pub done : status ≡ DONE → Appends (held sink) (held sink') (storm_lines requests)
   pub front : status ≡ WRITE_FAULT → AppendsFront (held sink) (held sink') (storm_lines requests)
+
+-- `storm`, where its word is a number of requests
+abbrev pub Loads : {W : Type 0} → (W → Option (List ℕ)) → Option ℕ → W → W → ℕ → Type 0
+Loads held requests sink sink' status = IfSome requests (λ n. Storms held n sink sink' status)
 
 -- `query`, by the words behind its socket: the daemon is asked one thing, over links of which this is told.
 pub record Asks {S : Type 0} (left : S → Option (List ℕ)) (rest : List (List ℕ)) (source source' : S) (told told' : replies.Told)

@@ -4,6 +4,8 @@
 pub mod commands;
 pub mod netgroups;
 pub mod outside;
+pub mod storms;
+pub mod sudo;
 pub mod texts;
 pub mod tools;
 pub mod words;
