@@ -2,6 +2,7 @@
 #![tactic(auto)]
 
 pub mod commands;
+mod files;
 pub mod netgroups;
 pub mod outside;
 pub mod storms;

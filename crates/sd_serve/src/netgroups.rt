@@ -4,8 +4,9 @@ ghost use Rattle.sd_base.specs.Causes.{Rose};
 ghost use Rattle.sd_serve.specs.Promises.{Nets};
 ghost use Rattle.sd_serve.specs.Words.{kind_of};
 
+use crate::files::{close_both, open_both};
 use crate::words::Kind;
-use sd_base::{Sink, SourceFailed};
+use sd_base::Sink;
 use sd_daemon::Host;
 use sd_netgroup::netgroup_tool;
 use sd_tools::{NO_MEMORY, READ_FAULT, Status, USAGE, WRITE_FAULT};
@@ -26,19 +27,10 @@ pub fn netgroup_at<W: Sink, H: Host>(
     ensures write_fault { result ≡ WRITE_FAULT → Rose (W.faults sink.old) (W.faults sink.new) }
     ensures no_memory { result ≡ NO_MEMORY → sink.new ≡ sink.old }
 {
-    let mut conf = match host.file(conf) {
-        Ok(file) => file,
-        Err(SourceFailed) => return READ_FAULT,
-    };
-    let mut ldif = match host.file(ldif) {
-        Ok(file) => file,
-        Err(SourceFailed) => {
-            host.done_file(conf);
-            return READ_FAULT;
-        }
+    let Ok((mut conf, mut ldif)) = open_both(conf, ldif, host) else {
+        return READ_FAULT;
     };
     let status = netgroup_tool(alloc, words, &mut conf, &mut ldif, sink);
-    host.done_file(conf);
-    host.done_file(ldif);
+    close_both(conf, ldif, host);
     status
 }
