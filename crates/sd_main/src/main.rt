@@ -8,6 +8,8 @@ mod outside;
 use host::{Health, SystemHost};
 use outside::SystemOutside;
 use sd_base::{Memory, ReaderSource, WriterSink};
+use sd_clock::OpenGate;
+use sd_ldap_server::TcpNetwork;
 use sd_serve::{NO_MEMORY, program};
 use std::process::ExitCode;
 use std::{env, io};
@@ -37,6 +39,7 @@ fn main(rt: HostRuntime) -> ExitCode {
     let mut outside = SystemOutside::new(&rt);
     let health = Health::new();
     let mut host = SystemHost::new(&rt, &rt, &health);
+    let mut network = TcpNetwork::new(&rt);
     ExitCode::from(program(
         &rt,
         rt.alloc(),
@@ -45,5 +48,7 @@ fn main(rt: HostRuntime) -> ExitCode {
         &mut sink,
         &mut outside,
         &mut host,
+        &mut network,
+        &OpenGate,
     ))
 }
