@@ -3,5 +3,5 @@ pub mod Told
 pub mod Asked
 pub mod Voided
 pub mod Played
-pub mod Kinds
+pub mod Spoken
 pub mod Netted

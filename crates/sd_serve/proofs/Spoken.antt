@@ -6,6 +6,7 @@ use Rattle.sd_load.specs.Words.{requests_of}
 use Rattle.sd_netgroup.specs.Words.{question_of}
 use Rattle.sd_netgroup.specs.declared.words.Question.{Question}
 use Rattle.sd_rules.specs.Keys.{same_name}
+use Rattle.sd_idmap.specs.Endings.{is_idmap}
 use Rattle.sd_scenario.specs.Endings.{is_scenario}
 use Rattle.sd_serve.specs.Words.{kind_of, kind_by_load, kind_by_rest, operand_of}
 use Rattle.sd_serve.specs.declared.words.Kind.{Kind}
@@ -13,7 +14,7 @@ use Rattle.sd_serve.specs.declared.words.Kind.TheVariants as kinds
 use Rattle.sd_sudo.specs.Words.{user_asked}
 
 -- what two words and more are, by what they ask for
-Says : Kind → List ℕ → List ℕ → List (List ℕ) → Type 0
+abbrev Says : Kind → List ℕ → List ℕ → List (List ℕ) → Type 0
 Says kinds.Scenario tool operand rest = ⊥
 Says kinds.Idmap tool operand rest = ⊥
 Says kinds.Help tool operand rest = ⊥
@@ -81,24 +82,25 @@ by_kind : (k : Kind) (tool operand : List ℕ) (rest : List (List ℕ)) → kind
 by_kind k tool operand rest e = subst (λ (x : Kind). Says x tool operand rest) e (says tool operand rest)
 
 -- what one word is, by what it asks for
-SaysAlone : Kind → List ℕ → Type 0
+abbrev SaysAlone : Kind → List ℕ → Type 0
 SaysAlone kinds.Scenario word = is_scenario (word ∷ []) ≡ true
+SaysAlone kinds.Idmap word = is_idmap (word ∷ []) ≡ true
 SaysAlone kinds.Netgroup word = ⊥
 SaysAlone kinds.Sudo word = ⊥
 SaysAlone kinds.Storm word = ⊥
 SaysAlone _ word = Unit {0}
 
-by_word : (a b c d : Bool) (P : Kind → Type 0) → (a ≡ true → P kinds.Scenario) → P kinds.Idmap → P kinds.Help → P kinds.Version → P kinds.Unknown
+by_word : (a b c d : Bool) (P : Kind → Type 0) → (a ≡ true → P kinds.Scenario) → (b ≡ true → P kinds.Idmap) → P kinds.Help → P kinds.Version → P kinds.Unknown
     → P (cond a kinds.Scenario (cond b kinds.Idmap (cond c kinds.Help (cond d kinds.Version kinds.Unknown))))
 by_word true b c d P s i h v u = s refl
-by_word false true c d P s i h v u = i
+by_word false true c d P s i h v u = i refl
 by_word false false true d P s i h v u = h
 by_word false false false true P s i h v u = v
 by_word false false false false P s i h v u = u
 
 alone : (word : List ℕ) → SaysAlone (kind_of (word ∷ [])) word
 alone word = by_word (same_name word (codes "scenario")) (same_name word (codes "idmap")) (same_name word (codes "--help")) (same_name word (codes "--version"))
-    (λ k. SaysAlone k word) (λ e. e) tt tt tt tt
+    (λ k. SaysAlone k word) (λ e. e) (λ e. e) tt tt tt
 
 by_kind_alone : (k : Kind) (word : List ℕ) → kind_of (word ∷ []) ≡ k → SaysAlone k word
 by_kind_alone k word e = subst (λ (x : Kind). SaysAlone x word) e (alone word)
@@ -108,6 +110,12 @@ pub is_the_word : (words : List (List ℕ)) → kind_of words ≡ kinds.Scenario
 is_the_word [] e = cc
 is_the_word (word ∷ []) e = by_kind_alone kinds.Scenario word e
 is_the_word (tool ∷ operand ∷ rest) e = absurd (by_kind kinds.Scenario tool operand rest e)
+
+-- those of SIDs are the one word `idmap`
+pub is_the_word_of_ids : (words : List (List ℕ)) → kind_of words ≡ kinds.Idmap → is_idmap words ≡ true
+is_the_word_of_ids [] e = cc
+is_the_word_of_ids (word ∷ []) e = by_kind_alone kinds.Idmap word e
+is_the_word_of_ids (tool ∷ operand ∷ rest) e = absurd (by_kind kinds.Idmap tool operand rest e)
 
 -- words that ask of a netgroup have a form
 pub has_question : (words : List (List ℕ)) → kind_of words ≡ kinds.Netgroup → question_of words ≢ None
