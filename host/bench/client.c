@@ -2,7 +2,9 @@
  *
  *   KIND PLACE   `frames SOCKET`: a daemon by its frames; `anew SOCKET`: the same by a connection for each question,
  *                as the NSS module asks; `module FILE`: an NSS module, by its getpwnam_r;
- *                `libc -`: the C library, which asks the daemon nscd where its socket is
+ *                `libc -`: the C library, which asks the daemon nscd where its socket is;
+ *                `logins SOCKET`, `checks SOCKET`: logins, and account checks for the service sshd, by its frames;
+ *                `pam FOLDER`: logins by PAM, by the service `login` of that folder. Passwords are `pw-NAME`
  *   COMMAND      `loop CLIENTS SECONDS PREFIX COUNT`   each client asks again and again for PREFIX and a number below COUNT
  *                `each PREFIX FROM COUNT`              one client asks for so many names, one after the other
  *                `burst CLIENTS NAME`                  all clients ask for one name at once
@@ -48,10 +50,28 @@ struct shared {
 typedef enum nss_status lookup(const char *, struct passwd *, char *, size_t, int *);
 
 static const char *place;
-enum kind { FRAMES, ANEW, MODULE, LIBC };
+enum kind { FRAMES, ANEW, MODULE, LIBC, LOGINS, CHECKS, PAM };
+
+/* As pam(3) has them: its header is in a package of its own. */
+struct pam_message {
+    int style;
+    const char *text;
+};
+struct pam_response {
+    char *text;
+    int code;
+};
+struct pam_conversation {
+    int (*talk)(int, const struct pam_message **, struct pam_response **, void *);
+    void *password;
+};
+typedef int pam_start(const char *, const char *, const struct pam_conversation *, const char *, void **);
+typedef int pam_step(void *, int);
 
 static enum kind kind;
 static lookup *ask_module;
+static pam_start *start_login;
+static pam_step *authenticate, *end_login;
 static int connection = -1;
 
 static void fail(const char *why)
@@ -106,12 +126,27 @@ static void open_module(void)
         fail("the module has no such call");
 }
 
+static void open_pam(void)
+{
+    void *library = dlopen("libpam.so.0", RTLD_NOW);
+
+    if (library == NULL)
+        fail("there is no PAM");
+    *(void **)&start_login = dlsym(library, "pam_start_confdir");
+    *(void **)&authenticate = dlsym(library, "pam_authenticate");
+    *(void **)&end_login = dlsym(library, "pam_end");
+    if (start_login == NULL || authenticate == NULL || end_login == NULL)
+        fail("PAM has no such call");
+}
+
 static void open_place(void)
 {
-    if (kind == FRAMES)
+    if (kind == FRAMES || kind == LOGINS || kind == CHECKS)
         connect_to_place();
     else if (kind == MODULE)
         open_module();
+    else if (kind == PAM)
+        open_pam();
 }
 
 static bool receive_reply(char *reply)
@@ -135,21 +170,65 @@ static bool receive_reply(char *reply)
     return have == wanted;
 }
 
-/* Whether the user was found. */
+static bool begins(const char *text, const char *word)
+{
+    return strncmp(text, word, strlen(word)) == 0;
+}
+
+static bool make_request(struct request *request, const char *name)
+{
+    char password[300];
+
+    if (kind == CHECKS)
+        return request_access(request, name, "sshd");
+    if (kind != LOGINS)
+        return request_by_name(request, COMMAND_USER, name);
+    snprintf(password, sizeof password, "pw-%.255s", name);
+    return request_login(request, name, password);
+}
+
+/* Whether the user was found, or let in. */
 static bool ask_by_frame(const char *name)
 {
-    static char reply[ROOM];
+    static char reply[ROOM + 1];
     struct request request;
     bool is_whole;
 
-    if (!request_by_name(&request, COMMAND_USER, name) || (connection < 0 && !connect_to_place()))
+    if (!make_request(&request, name) || (connection < 0 && !connect_to_place()))
         return false;
     is_whole = send(connection, request.bytes, request.length, MSG_NOSIGNAL) == (ssize_t)request.length && receive_reply(reply);
     if (!is_whole || kind == ANEW) {
         close(connection);
         connection = -1;
     }
-    return is_whole && (memcmp(reply + 4, "found ", 6) == 0 || memcmp(reply + 4, "old ", 4) == 0);
+    return is_whole && (begins(reply + 4, "found ") || begins(reply + 4, "old ") || begins(reply + 4, "accepted ") ||
+                        begins(reply + 4, "granted "));
+}
+
+static int tell_password(int count, const struct pam_message **messages, struct pam_response **answers, void *password)
+{
+    enum { ASKS_HIDDEN = 1, ASKS_SHOWN = 2 };
+
+    *answers = calloc((size_t)count, sizeof **answers);
+    for (int at = 0; at < count; at++)
+        if (messages[at]->style == ASKS_HIDDEN || messages[at]->style == ASKS_SHOWN)
+            (*answers)[at].text = strdup(password);
+    return 0;
+}
+
+static bool log_in(const char *name)
+{
+    char password[300];
+    struct pam_conversation conversation = { tell_password, password };
+    void *login = NULL;
+    int status;
+
+    snprintf(password, sizeof password, "pw-%.255s", name);
+    if (start_login("login", name, &conversation, place, &login) != 0)
+        return false;
+    status = authenticate(login, 0);
+    end_login(login, status);
+    return status == 0;
 }
 
 static bool ask(const char *name)
@@ -161,7 +240,11 @@ static bool ask(const char *name)
     switch (kind) {
     case FRAMES:
     case ANEW:
+    case LOGINS:
+    case CHECKS:
         return ask_by_frame(name);
+    case PAM:
+        return log_in(name);
     case MODULE:
         return ask_module(name, &user, buffer, sizeof buffer, &fault) == NSS_STATUS_SUCCESS;
     case LIBC:
@@ -324,9 +407,10 @@ static int ask_first(const char *name)
 
 static enum kind kind_of(const char *word)
 {
-    static const char *const words[] = { [FRAMES] = "frames", [ANEW] = "anew", [MODULE] = "module", [LIBC] = "libc" };
+    static const char *const words[] = { [FRAMES] = "frames", [ANEW] = "anew",     [MODULE] = "module", [LIBC] = "libc",
+                                         [LOGINS] = "logins", [CHECKS] = "checks", [PAM] = "pam" };
 
-    for (enum kind one = FRAMES; one <= LIBC; one++)
+    for (enum kind one = FRAMES; one <= PAM; one++)
         if (strcmp(words[one], word) == 0)
             return one;
     fail("no such kind");
@@ -352,6 +436,6 @@ int main(int count, char **words)
         return run_clients(atoi(words[0]), 0, words[1], 1);
     if (strcmp(command, "first") == 0 && left == 1)
         return ask_first(words[0]);
-    fprintf(stderr, "client frames SOCKET|anew SOCKET|module FILE|libc - loop|each|burst|first ..\n");
+    fprintf(stderr, "client frames|anew|logins|checks SOCKET, module FILE, libc - or pam FOLDER, then loop|each|burst|first ..\n");
     return 2;
 }

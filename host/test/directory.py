@@ -1,7 +1,7 @@
 #!/usr/bin/env python3
 """The directory of the host's tests: users, nested groups, a host, services and access rules.
 
-    directory.py [--members N] [BASE]
+    directory.py [--members N] [--rules N] [BASE]
 
 prints it as LDIF; the module is also what the tests' stand-in for a daemon answers from. The places are
 those that the daemon asks: users under cn=users,cn=accounts, groups under cn=groups,cn=accounts, hosts
@@ -32,9 +32,10 @@ class Rule:
 
 
 class Directory:
-    """`members` users m0, m1, .. are all in the group `crowd`."""
+    """`members` users m0, m1, .. are all in the group `crowd`. Of more than one rule the last lets them in by sshd, and those
+    between let a group in by a service that nobody asks for."""
 
-    def __init__(self, members=2000):
+    def __init__(self, members=2000, rules=1):
         self.users = [
             User("alice", 10001, 10001, "wonderland", "Alice Liddell", "/bin/bash"),
             User("bob", 10002, 10002, "builder"),
@@ -53,7 +54,9 @@ class Directory:
             Group("zero", 0, ["alice"]),
         ]
         self.rules = [Rule("engineers_log_in", ["engineers"], ["sshd", "login", "su-l"])]
-        self.services = ["sshd", "login", "su-l"]
+        self.rules += [Rule("more%d" % i, ["crew"], ["other"]) for i in range(rules - 2)]
+        self.rules += [Rule("the_crowd_too", ["crowd"], ["sshd"])] if rules > 1 else []
+        self.services = ["sshd", "login", "su-l"] + (["other"] if rules > 2 else [])
 
     def user(self, name):
         return next((u for u in self.users if u.name == name), None)
@@ -130,6 +133,7 @@ def print_ldif(directory, base, out):
 if __name__ == "__main__":
     parser = argparse.ArgumentParser()
     parser.add_argument("--members", type=int, default=2000)
+    parser.add_argument("--rules", type=int, default=1)
     parser.add_argument("base", nargs="?", default=BASE)
     words = parser.parse_args()
-    print_ldif(Directory(words.members), words.base, sys.stdout)
+    print_ldif(Directory(words.members, words.rules), words.base, sys.stdout)

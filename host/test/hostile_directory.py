@@ -1,7 +1,7 @@
 #!/usr/bin/env python3
-"""hostile_directory.py SEED: an LDAP directory on a free port of the loopback device, which it prints. What it answers
-about a user is told by the name: a user mN is there, and the group `crowd` has 300 of them; else by the word in
-front of the dash.
+"""hostile_directory.py SEED [PROCESSES]: an LDAP directory on a free port of the loopback device, which it prints; so many
+processes (1) answer. What it answers about a user is told by the name: a user mN is there, and the group `crowd` has 300
+of them; else by the word in front of the dash.
 
     mutated   some bytes or bits changed            cut       the end after some bytes
     reset     the same by a reset                   length    an outer length that is false
@@ -10,8 +10,11 @@ front of the dash.
     others    messages of another number, no end    references, entries   such messages without end
     drip      a byte a second                       silent    nothing
 
-A name `bind-WORD-N` is there, and WORD is how its bind is answered. The dice of an answer are those of SEED, the name
-and how often it was asked."""
+A name `bind-WORD-N` is there, and WORD is how its bind is answered. Any other name is not. The dice of an answer are
+those of SEED, the name and how often it was asked. Once its standard input ends, it prints how often it answered by each
+word, as JSON, and ends."""
+import contextlib
+import json
 import os
 import random
 import re
@@ -30,6 +33,8 @@ FALSE_LENGTHS = (b"\x80", b"\x00", b"\x01", b"\x7f", b"\x81\x05", b"\x83\xff\xff
                  b"\x84\x01\x00\x00\x01", b"\x84\xff\xff\xff\xff", b"\x85\x00\x00\x00\x00\x10", b"\xff")
 CODES = (1, 3, 4, 10, 32, 50, 51, 52, 53, 80, 90, 4096, 2 ** 31 - 1, 2 ** 32 - 1)
 MEMBERS = 300
+# How it can answer; what a mutated name asks for by another word is answered as it should.
+WORDS = ("mutated", "cut", "reset", "length", "deep", "code", "many", "notice", "others", "references", "entries", "drip", "silent")
 
 
 def user_dn(name):
@@ -95,7 +100,7 @@ class Ends(Exception):
 
 
 class Connection(threading.Thread):
-    asked = {}
+    asked, answered = {}, {}
     lock = threading.Lock()
 
     def __init__(self, stream, seed):
@@ -128,6 +133,10 @@ class Connection(threading.Thread):
             count = self.asked[name] = self.asked.get(name, 0) + 1
         return random.Random("%s %s %d" % (self.seed, name, count))
 
+    def note(self, word):
+        with self.lock:
+            self.answered[word] = self.answered.get(word, 0) + 1
+
     def reset(self):
         self.stream.setsockopt(socket.SOL_SOCKET, socket.SO_LINGER, struct.pack("ii", 1, 0))
         raise Ends
@@ -145,6 +154,7 @@ class Connection(threading.Thread):
             send(whole)
             return
         dice = self.dice(name)
+        self.note(word if word in WORDS else "rest")
         if word == "mutated":
             send(mutated(dice, whole))
             # What it may still wait for does not come.
@@ -188,13 +198,25 @@ class Connection(threading.Thread):
             send(whole)
 
 
-def main():
-    listener = socket.create_server(("127.0.0.1", 0), backlog=256)
-    print(listener.getsockname()[1], flush=True)
+def answer_all(listener, seed):
     while True:
         stream, _ = listener.accept()
         stream.setsockopt(socket.IPPROTO_TCP, socket.TCP_NODELAY, 1)
-        Connection(stream, sys.argv[1]).start()
+        Connection(stream, seed).start()
+
+
+def main():
+    seed, processes = sys.argv[1], int(sys.argv[2]) if len(sys.argv) > 2 else 1
+    listener = socket.create_server(("127.0.0.1", 0), backlog=256)
+    print(listener.getsockname()[1], flush=True)
+    is_first = all(os.fork() for _ in range(processes - 1))
+    threading.Thread(target=answer_all, args=(listener, seed), daemon=True).start()
+    # Each process ends with the one that started the first.
+    sys.stdin.buffer.read()
+    if is_first:
+        with contextlib.suppress(BrokenPipeError):
+            print(json.dumps(Connection.answered, sort_keys=True), flush=True)
+    os._exit(0)
 
 
 if __name__ == "__main__":

@@ -4,4 +4,3 @@ pub mod Asked
 pub mod Voided
 pub mod Played
 pub mod Spoken
-pub mod Netted

@@ -4,7 +4,6 @@ use Rattle.std.specs.Prelude.{codes, is_some}
 use Rattle.sd_ldap_server.specs.Addresses.{is_address}
 use Rattle.sd_load.specs.Words.{requests_of}
 use Rattle.sd_netgroup.specs.Words.{question_of}
-use Rattle.sd_netgroup.specs.declared.words.Question.{Question}
 use Rattle.sd_rules.specs.Keys.{same_name}
 use Rattle.sd_idmap.specs.Endings.{is_idmap}
 use Rattle.sd_scenario.specs.Endings.{is_scenario}

@@ -162,7 +162,7 @@ where
         Kind::Netgroup => netgroup_at(alloc, words, path, first_of(rest), sink, host),
         Kind::Sudo => sudo_at(alloc, words, path, first_of(rest), sink, host),
         Kind::Directory => directory_at(rt, alloc, path, first_of(rest), sink, host, network),
-        Kind::Storm => storm_by(rt, alloc, path, sink, gate),
+        Kind::Storm => storm_by(rt, alloc, words, sink, gate),
         Kind::Help => print(HELP, source, sink),
         Kind::Version => print(VERSION, source, sink),
         Kind::Query => query_at(alloc, path, rest, source, sink, outside),

@@ -1,0 +1,9 @@
+//! Doors for clients over TCP.
+#![tactic(auto)]
+
+mod doors;
+
+pub use doors::TcpDoors;
+
+#[cfg(test)]
+mod tests;
