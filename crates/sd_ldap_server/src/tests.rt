@@ -223,14 +223,7 @@ fn serve_two<R: Wait + Net + Clock>(rt: &R, alloc: Global, doors: TcpDoors<'_, R
     let mut network = network_of(doors, 2);
     let mut source = MemorySource::new(Vec::new(alloc), Numbers::new(alloc));
     let mut sink = MemorySink::new(Vec::new(alloc), Numbers::new(alloc));
-    directory(
-        rt,
-        alloc,
-        &mut source,
-        ADDRESS,
-        &mut sink,
-        &mut network,
-    )
+    directory(rt, alloc, &mut source, ADDRESS, &mut sink, &mut network)
 }
 
 /// How the word ends at an address of this host over a directory of no entries, and what is written.

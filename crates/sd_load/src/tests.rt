@@ -14,7 +14,10 @@ const LOADS: [(u32, &str); 4] = [
     (1, "requests 1\nfound 1\nnone 0\nleads 1\n"),
     (10, "requests 10\nfound 9\nnone 1\nleads 10\n"),
     (1000, "requests 1000\nfound 731\nnone 269\nleads 198\n"),
-    (100_000, "requests 100000\nfound 75245\nnone 24755\nleads 200\n"),
+    (
+        100_000,
+        "requests 100000\nfound 75245\nnone 24755\nleads 200\n",
+    ),
 ];
 
 /// Words, and how many requests they ask for.
