@@ -1,13 +1,16 @@
 // The task of a client's lookup.
-ghost use Rattle.std.specs.Prelude.{◌≡◌, true, IfOk};
+ghost use Rattle.std.specs.Prelude.{◌≡◌, true, IfOk, OnErr, OnOk};
+ghost use Rattle.sd_rules.specs.declared.keys.Key.{Key};
 ghost use Rattle.sd_rules.specs.Lookups as lookups;
 ghost use Rattle.sd_rules.specs.Scripts.{Script, Lookup, need_at, told_at, replied_at, fetched_at, bound_at, key_at};
 ghost use Rattle.sd_nss.specs.Asked.{Asked};
+ghost use Rattle.sd_nss.specs.Telling.{tells};
 
 use crate::lookup;
-use sd_base::{Copied, Memory};
+use sd_base::Memory;
 use sd_rules::{Bound, Fetched, Given, Key, LookupCourse, LookupStage, LookupStep, Need, Task};
 use std::marker::Model;
+use std::mem;
 
 /// A client's request for a key.
 #[derive(Drop)]
@@ -98,30 +101,33 @@ fn fetched(course: &mut LookupCourse, found: Fetched)
     }
 }
 
-/// What a request needs next.
-fn course_need(key: &Key, course: &LookupCourse) -> Result<Need, Memory>
-    ensures { IfOk result (λ need. need ≡ lookups.course_need key.now course.now) }
+/// What is to be told, taken out of a request that goes on after that.
+fn say(course: &mut LookupCourse) -> Need
+    requires { tells course.old ≡ true }
+    ensures need { (key : Key) → result ≡ lookups.course_need key course.old }
+    ensures told { course.new ≡ lookups.course_told course.old }
 {
-    match course {
-        LookupCourse::Looking(stage) => lookup::need_of(key, stage),
-        LookupCourse::Saying(said) => Ok(Need::Say(said.copy()?)),
-        LookupCourse::SayingFirst(said, _) => Ok(Need::Say(said.copy()?)),
-        LookupCourse::Renewing(stage) => lookup::need_of(key, stage),
-        LookupCourse::Over => Ok(Need::End),
+    match mem::replace(course, LookupCourse::Over) {
+        LookupCourse::Saying(said) => Need::Say(said),
+        LookupCourse::SayingFirst(said, request) => {
+            put(course, LookupCourse::Renewing(LookupStage::Pick(request)));
+            Need::Say(said)
+        }
+        _ => Need::End,
     }
 }
 
-/// How a request goes on once its need is known.
-fn told(course: &mut LookupCourse)
-    ensures { course.new ≡ lookups.course_told course.old }
+/// What a request needs next. What is to be told counts as told from here on.
+fn next_need(key: &Key, course: &mut LookupCourse) -> Result<Need, Memory>
+    ensures need { IfOk result (λ need. need ≡ lookups.course_need key.now course.old) }
+    ensures told { OnOk result (course.new ≡ lookups.course_told course.old) }
+    ensures unchanged { OnErr result (course.new ≡ course.old) }
 {
     match course {
-        LookupCourse::Saying(_) => put(course, LookupCourse::Over),
-        LookupCourse::SayingFirst(_, request) => {
-            let request = *request;
-            put(course, LookupCourse::Renewing(LookupStage::Pick(request)));
-        }
-        _ => {}
+        LookupCourse::Looking(stage) => lookup::need_of(key, stage),
+        LookupCourse::Renewing(stage) => lookup::need_of(key, stage),
+        LookupCourse::Over => Ok(Need::End),
+        _ => Ok(say(course)),
     }
 }
 
@@ -130,9 +136,7 @@ impl Task for NssTask {
 
     #[tactic(auto, using(sd_rules::proofs::ScriptLaws::told_stays, sd_rules::proofs::LookupKinds::course_told_of_kind, sd_rules::proofs::LookupKinds::course_need_of_kind, sd_rules::proofs::LookupKinds::course_need_tellable))]
     fn need(&mut self) -> Result<Need, Memory> {
-        let need = course_need(&self.key, &self.course)?;
-        told(&mut self.course);
-        Ok(need)
+        next_need(&self.key, &mut self.course)
     }
 
     #[tactic(auto, using(sd_rules::proofs::LookupKinds::reply_keeps_kind))]
