@@ -1,2 +1,3 @@
 pub mod FramesAgain
 pub mod FramesFound
+pub mod Plain

@@ -1,9 +1,11 @@
 // Fields of printed lines, and words with numbers behind them.
 ghost use Rattle.std.specs.Prelude.{◌≡◌, ◌++◌, ◌<◌, OnOk};
 ghost use Rattle.std.specs.Fmt.{decimal};
+ghost use Rattle.std.specs.List.{list_any};
 ghost use Rattle.sd_wire.specs.Escapes as escapes;
 ghost use Rattle.sd_wire.specs.Forms as forms;
 
+use itoa::Buffer;
 use sd_base::Memory;
 use std::alloc::Global;
 
@@ -17,12 +19,12 @@ pub fn push_bytes(out: &mut Vec<u8>, bytes: &[u8]) -> Result<(), Memory>
 }
 
 /// Appends a number in decimal.
-pub fn push_number(alloc: Global, out: &mut Vec<u8>, number: u64) -> Result<(), Memory>
+pub fn push_number(_alloc: Global, out: &mut Vec<u8>, number: u64) -> Result<(), Memory>
     ensures ok { OnOk result (out.new.items ≡ out.old.items ++ decimal number) }
     ensures kept { forms.Keeps out.old.items out.new.items }
 {
-    let digits = number.to_string(alloc)?;
-    push_bytes(out, digits.as_bytes())
+    let mut digits = Buffer::new();
+    push_bytes(out, digits.format(number).as_bytes())
 }
 
 /// Appends a word and a number.
@@ -120,8 +122,15 @@ fn push_byte_of_name(out: &mut Vec<u8>, byte: u8) -> Result<(), Memory>
     }
 }
 
-/// Appends a field.
-pub fn push_field(out: &mut Vec<u8>, field: &[u8]) -> Result<(), Memory>
+/// Whether some byte of a field does not stand for itself.
+fn has_escaped(field: &[u8]) -> bool
+    ensures { result ≡ list_any escapes.is_escaped field.now }
+{
+    field.iter().any(|byte| is_escaped(*byte))
+}
+
+/// Appends a field byte by byte.
+fn push_escaped(out: &mut Vec<u8>, field: &[u8]) -> Result<(), Memory>
     ensures ok { OnOk result (out.new.items ≡ out.old.items ++ escapes.field field.now) }
     ensures kept { forms.Keeps out.old.items out.new.items }
 {
@@ -129,6 +138,19 @@ pub fn push_field(out: &mut Vec<u8>, field: &[u8]) -> Result<(), Memory>
         push_byte_of_field(out, *byte)?;
     }
     Ok(())
+}
+
+/// Appends a field: whole, where each of its bytes stands for itself, as in most.
+#[tactic(auto, using(crate::proofs::Plain::plain_is))]
+pub fn push_field(out: &mut Vec<u8>, field: &[u8]) -> Result<(), Memory>
+    ensures ok { OnOk result (out.new.items ≡ out.old.items ++ escapes.field field.now) }
+    ensures kept { forms.Keeps out.old.items out.new.items }
+{
+    if has_escaped(field) {
+        push_escaped(out, field)
+    } else {
+        push_bytes(out, field)
+    }
 }
 
 /// Appends the name of a member.

@@ -1,7 +1,7 @@
 use Rattle.std.proofs.Common.{◌≡◌, ◌++◌, drop}
 use Rattle.sd_wire.specs.Escapes as escapes
 use Rattle.sd_wire.specs.Forms as forms
-use Rattle.sd_wire.proofs.fields.push_field.Given as goal
+use Rattle.sd_wire.proofs.fields.push_escaped.Given as goal
 
 -- what was appended, and then the bytes left, is the whole field
 abbrev pub invariant-loop-byte : goal.invariant-loop-byte
