@@ -1,2 +1,3 @@
 pub mod RoomLaws
 pub mod StandingLaws
+pub mod RowLaws

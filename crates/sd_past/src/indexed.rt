@@ -15,7 +15,9 @@ use sd_base::Memory;
 use sd_cache::Primed;
 use sd_index::Index;
 use sd_journal::past::Standing;
-use sd_rules::{Entry, Event, Journal, Key, Reply, Settings};
+use sd_rows::rows_of;
+use sd_rules::{Entry, Event, Journal, Key, Reply, Rows, Settings};
+use sd_sieve::whole::Whole;
 use sd_sieve::{Sifted, sift};
 use std::alloc::Global;
 use std::marker::Model;
@@ -163,6 +165,14 @@ impl Past for IndexedPast {
 
     fn reply_to_ask(&self, settings: &Settings, number: u64, moment: u64, key: &Key) -> Reply {
         self.index.reply_to_ask(settings, number, moment, key)
+    }
+
+    fn rows(&self, alloc: Global, next: u64, floor: u64) -> Result<Rows, Memory> {
+        let whole = Whole {
+            entries: self.entries.as_slice(),
+            index: &self.index,
+        };
+        rows_of(alloc, self.hasher, next, floor, whole)
     }
 
     fn put(&mut self, entry: Entry) -> Result<(), Event> {

@@ -1,19 +1,22 @@
 // What a core asks of the entries made so far.
-ghost use Rattle.std.specs.Prelude.{◌≡◌, ◌+◌, ◌≤◌, ◌∷◌, List, true, reverse, IfOk, IfErr, IsOk, OnErr, OnOk};
+ghost use Rattle.std.specs.Prelude.{◌≡◌, ◌+◌, ◌<◌, ◌≤◌, ◌^◌, ◌∷◌, List, true, reverse, IfOk, IfErr, IsOk, OnErr, OnOk};
 ghost use Rattle.std.specs.Option.{option_map};
 ghost use Rattle.sd_rules.specs.declared.replies.Entry.{Entry};
 ghost use Rattle.sd_rules.specs.Answers as answers;
 ghost use Rattle.sd_rules.specs.Needed as needed;
 ghost use Rattle.sd_rules.specs.Past as past;
 ghost use Rattle.sd_rules.specs.Requests as requests;
+ghost use Rattle.sd_rules.specs.Steps as steps;
 ghost use Rattle.sd_journal.specs.Seen as seen;
+ghost use Rattle.sd_keeping.specs.Counts as counts;
 ghost use Rattle.sd_index.specs.Entries.{falls, numbers_fall};
 ghost use Rattle.sd_index.specs.Table.{takes_none};
 ghost use Rattle.sd_past.specs.Closing.{closes_place};
+ghost use Rattle.sd_rows.specs.Kept.{Keeps};
 
 use sd_base::Memory;
 use sd_journal::past::Standing;
-use sd_rules::{Entry, Event, Journal, Key, Reply, Settings};
+use sd_rules::{Entry, Event, Journal, Key, Reply, Rows, Settings};
 use std::alloc::Global;
 
 /// The entries made so far, whose numbers rise.
@@ -57,6 +60,13 @@ pub trait Past: Drop {
     /// The reply to a question at a moment; `number` is that of the new entry.
     fn reply_to_ask(&self, settings: &Settings, number: u64, moment: u64, key: &Key) -> Reply
         ensures { result ≡ answers.reply_to_ask settings.now (entries self.now) number moment key.now };
+
+    /// The rows that are kept of the entries over a restart. The next entry has at least the number `next` and a moment, in seconds, of
+    /// at least `floor`.
+    fn rows(&self, alloc: Global, next: u64, floor: u64) -> Result<Rows, Memory>
+        requires numbers { steps.number_after next (entries self.now) < 2 ^ 64 }
+        requires guesses { counts.HasCounts (entries self.now) }
+        ensures { IfOk result (λ rows. Keeps next floor (entries self.now) rows) };
 
     /// Puts an entry behind the others, or hands its event back for want of memory. One that closes what is open has its room already.
     fn put(&mut self, entry: Entry) -> Result<(), Event>

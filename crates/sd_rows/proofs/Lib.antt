@@ -1,0 +1,3 @@
+pub mod VoidedLaws
+pub mod LoginLaws
+pub mod RowLaws
