@@ -9,8 +9,8 @@ use Rattle.sd_rules.specs.KeptRows.{opened, rows_of}
 use Rattle.sd_rules.specs.Needed.{needed}
 use Rattle.sd_rules.specs.Steps.{Daemon, recorded}
 use Rattle.sd_rules.specs.TextBytes.{bytes_of_event, bytes_of_row, text_bytes}
-use Rattle.sd_keeping.specs.Opening.{Keeps}
 use Rattle.sd_index.specs.Entries.{numbers_fall, falls}
+use Rattle.sd_rows.specs.Kept.{Keeps}
 use Rattle.sd_core.specs.Held.{daemon_of, IsHeld}
 use Rattle.sd_core.specs.Laws.{IsKept}
 use Rattle.sd_core.specs.Looks.{has_stopped, is_stop}
@@ -81,10 +81,10 @@ pub next_at_first : (s : Settings) (rows : List Row) (next floor : ℕ) (past : 
 next_at_first s rows next floor past is h = subst (λ (d : Daemon). d.next ≤ 2 ^ 64 - 1) is h
 
 -- the rows that are kept of its parts
-pub rows_kept : {M : Type 0} (r : Result (List Row) M) (s : Settings) (next floor : ℕ) (es xs : List Entry) (d : Daemon) → IfOk r (Keeps next floor es) →
-    es ≡ xs → daemon_of s next floor (reverse xs) ≡ d → IfOk r (λ rs. rs ≡ rows_of d)
-rows_kept (Ok rs) s next floor es xs d h is same = h s ∙ (ap (λ (e : List Entry). rows_of (daemon_of s next floor (reverse e))) is ∙ ap rows_of same)
-rows_kept (Err m) s next floor es xs d h is same = tt
+pub rows_kept : {M : Type 0} (r : Result (List Row) M) (s : Settings) (next floor : ℕ) (past : List Entry) (d : Daemon) → IfOk r (Keeps next floor past) →
+    daemon_of s next floor past ≡ d → IfOk r (λ rs. rs ≡ rows_of d)
+rows_kept (Ok rs) s next floor past d h same = h s ∙ ap rows_of same
+rows_kept (Err m) s next floor past d h same = tt
 
 pub kept_few : {M : Type 0} (r : Result (List Row) M) (d : Daemon) → IfOk r (λ rs. rs ≡ rows_of d) → IsSound d → IfOk r (λ rs. length rs < 2 ^ 32)
 kept_few (Ok rs) d h sound = rows_few d rs h sound

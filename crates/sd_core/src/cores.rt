@@ -22,7 +22,7 @@ use crate::text_bytes::of_entries;
 use sd_base::Memory;
 use sd_index::texts::of_event;
 use sd_journal::requests::is_took;
-use sd_keeping::{OpenJournal, bad_row, opened, rows_of};
+use sd_keeping::{OpenJournal, bad_row, opened};
 use sd_past::{IndexedPast, ListedPast, Past};
 use sd_rules::{Entry, Event, Given, Journal, Refused, Rows, Settings, StepFault};
 use std::alloc::Global;
@@ -211,7 +211,7 @@ impl<P: Past> EntryCore<P> {
         ensures few { IfOk result (λ rows. length rows < 2 ^ 32) }
         ensures texts { IfOk result (λ rows. sum_by bytes.bytes_of_row rows ≤ 512 * 1024 * 1024) }
     {
-        rows_of(self.alloc, self.next, self.floor, self.past.list())
+        self.past.rows(self.alloc, self.next, self.floor)
     }
 
     /// What a ticket waits for. It makes no entry and takes no memory.
