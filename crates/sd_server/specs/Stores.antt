@@ -50,17 +50,6 @@ pub record IsLater (desk : Desk) (before now : DeskSeat) : Type 0 where
 abbrev pub wait_for : ℕ → ℕ → ℕ
 wait_for before now = if now == before then 60 else 1
 
--- How long they wait for so many entries' sake, in seconds: to take the rows costs time by the square of them, and nobody is
--- answered meanwhile.
-abbrev pub pause_for : ℕ → ℕ
-pause_for entries =
-    if nat_le entries 2000 then 0
-    else if nat_le entries 4000 then 30
-    else if nat_le entries 8000 then 150
-    else if nat_le entries 20000 then 900
-    else 86400
-
 -- that time has passed, forwards or backwards
-abbrev pub is_due : LastFlush → ℕ → ℕ → ℕ → Bool
-is_due last moment hashes entries =
-    nat_le (wait_for last.hashes hashes + pause_for entries) ((moment - last.moment) + (last.moment - moment))
+abbrev pub is_due : LastFlush → ℕ → ℕ → Bool
+is_due last moment hashes = nat_le (wait_for last.hashes hashes) ((moment - last.moment) + (last.moment - moment))

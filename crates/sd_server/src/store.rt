@@ -1,9 +1,9 @@
 //! When the rows of the journal are put into the store.
-ghost use Rattle.std.specs.Prelude.{◌≡◌, ◌≤◌, true, OnErr, OnOk};
+ghost use Rattle.std.specs.Prelude.{◌≡◌, true, OnErr, OnOk};
 ghost use Rattle.sd_base.specs.Causes.{Rose};
 ghost use Rattle.sd_desk.specs.Desks.{front, IsOwn, HoldsNoTurn};
 ghost use Rattle.sd_keeper.specs.Keeping.{has_failed, TellsLast};
-ghost use Rattle.sd_server.specs.Stores.{failed_by, faults_by, told_by, HoldsOldOrReached, HoldsReached, IsLater, pause_for, Stays};
+ghost use Rattle.sd_server.specs.Stores.{failed_by, faults_by, told_by, HoldsOldOrReached, HoldsReached, IsLater, Stays};
 
 use sd_desk::{Desk, DeskSeat};
 use sd_keeper::{Keeper, KeeperFault, flush};
@@ -15,21 +15,6 @@ const WAIT: u64 = 60;
 
 /// How long they wait where a login brought a hash: a reboot without warning is to lose little.
 const WAIT_OF_HASHES: u64 = 1;
-
-/// How long they wait for so many entries' sake, in seconds: to take the rows costs time by the square of them, and nobody is
-/// answered meanwhile.
-fn pause_for(entries: usize) -> u64
-    ensures exact { result ≡ pause_for entries }
-    ensures within { result ≤ 86400 }
-{
-    match entries {
-        0..=2000 => 0,
-        2001..=4000 => 30,
-        4001..=8000 => 150,
-        8001..=20000 => 900,
-        _ => 86400,
-    }
-}
 
 /// When rows were flushed last.
 #[derive(Clone, Copy, Debug)]
@@ -44,17 +29,17 @@ impl LastFlush {
     ghost use Rattle.std.specs.Prelude.{◌≡◌};
     ghost use Rattle.sd_server.specs.Stores.{is_due};
 
-    /// Whether rows are to be flushed at a moment when so many hashes have come, of so many entries. A clock that was set back
-    /// is as good as one that went on.
-    fn is_due(&self, moment: u64, hashes: u64, entries: usize) -> bool
-        ensures { result ≡ is_due self.now moment hashes entries }
+    /// Whether rows are to be flushed at a moment when so many hashes have come. A clock that was set back is as good
+    /// as one that went on.
+    fn is_due(&self, moment: u64, hashes: u64) -> bool
+        ensures { result ≡ is_due self.now moment hashes }
     {
         let wait = if hashes == self.hashes {
             WAIT
         } else {
             WAIT_OF_HASHES
         };
-        wait + pause_for(entries) <= moment.abs_diff(self.moment)
+        wait <= moment.abs_diff(self.moment)
     }
 }
 
@@ -100,12 +85,12 @@ pub fn store_in_time<R: Wait, K: Keeper>(
     ensures stored { HoldsOldOrReached (front desk.now seat.old) (told_by K.told keeper.old) (told_by K.told keeper.new) }
     ensures stays { Stays K.faults keeper.old keeper.new }
 {
-    let counts = seat.counts();
-    if !last.is_due(moment, counts.hashes, counts.entries) {
+    let hashes = seat.counts().hashes;
+    if !last.is_due(moment, hashes) {
         return;
     }
     last.moment = moment;
     if store_rows(rt, alloc, desk, seat, keeper).is_ok() {
-        last.hashes = counts.hashes;
+        last.hashes = hashes;
     }
 }
