@@ -42,7 +42,9 @@ fn answer_row(
     requires at { entry.now ≡ slice_index_or all.now place entry.now }
     ensures { IfOk result (λ row. row ≡ kept.answer_row (reverse all.now) (past.answer_in (reverse (take place all.now)) entry.now)) }
 {
-    let Some(a) = answer_in(&all[..place], entry) else { return Ok(None) };
+    let Some(a) = answer_in(&all[..place], entry) else {
+        return Ok(None)
+    };
     if !is_newest_at(all, found.newest.as_slice(), place, entry) {
         return Ok(None);
     }
@@ -62,7 +64,11 @@ fn count_at_last(all: &[Entry], entry: &Entry, user: &Text) -> u64
     requires { counts.HasCounts (reverse all.now) }
     ensures { result ≡ (if kept.is_last_wrong (reverse all.now) user.now entry.now then logins.wrong_count (reverse all.now) user.now else 0) }
 {
-    if is_last_wrong(all, entry, user) { wrong_count(all, user) } else { 0 }
+    if is_last_wrong(all, entry, user) {
+        wrong_count(all, user)
+    } else {
+        0
+    }
 }
 
 /// The row of the wrong guesses of a user, where there is a user.
@@ -78,11 +84,7 @@ fn wrong_row(all: &[Entry], entry: &Entry, user: Option<&Text>) -> Result<Option
 }
 
 /// The row that is kept of an entry for guesses or of a server, where one is.
-fn wrong_or_fall_row(
-    found: &Findings,
-    all: &[Entry],
-    entry: &Entry,
-) -> Result<Option<Row>, Memory>
+fn wrong_or_fall_row(found: &Findings, all: &[Entry], entry: &Entry) -> Result<Option<Row>, Memory>
     requires counts { counts.HasCounts (reverse all.now) }
     requires found { findings.AreFound all.now found.now }
     ensures { IfOk result (λ row. row ≡ keeps.wrong_or_fall_row (reverse all.now) entry.now) }
@@ -142,12 +144,7 @@ fn add_row(rows: &mut Rows, row: Option<Row>) -> Result<(), Memory>
 }
 
 /// The rows of a journal behind its head.
-fn rows_behind(
-    alloc: Global,
-    head: Row,
-    found: &Findings,
-    all: &[Entry],
-) -> Result<Rows, Memory>
+fn rows_behind(alloc: Global, head: Row, found: &Findings, all: &[Entry]) -> Result<Rows, Memory>
     requires numbers { falls (reverse all.now) ≡ true }
     requires counts { counts.HasCounts (reverse all.now) }
     requires found { findings.AreFound all.now found.now }
