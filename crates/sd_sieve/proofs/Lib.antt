@@ -5,3 +5,4 @@ pub mod ReadLaws
 pub mod UserLaws
 pub mod ServerLaws
 pub mod SinceLaws
+pub mod CoverLaws

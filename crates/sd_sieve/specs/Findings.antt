@@ -7,6 +7,7 @@ use Rattle.sd_rules.specs.Requests.{is_open_request, waits_for, outcome_of}
 use Rattle.sd_rules.specs.Servers.{is_online}
 use Rattle.sd_rules.specs.Steps.{is_asking}
 use Rattle.sd_cache.specs.declared.kept.Newest.{Newest}
+use Rattle.sd_sieve.specs.Covers.{HoldVoids, HoldCovered}
 use Rattle.sd_sieve.specs.Falls.{HoldFalls}
 use Rattle.sd_sieve.specs.Marks.{MarkNewest}
 use Rattle.sd_sieve.specs.Users.{HoldUsers}
@@ -55,6 +56,8 @@ awaited all (e ∷ past) =
 -- what was found is that of a journal, given the oldest first
 pub record IsFound (entries : List Entry) (f : Findings) : Type 0 where
   pub newest : MarkNewest entries f.newest.items
+  pub lasts : HoldVoids (reverse entries) f.lasts
+  pub firsts : HoldCovered (reverse entries) (reverse entries) f.lasts f.firsts
   pub askings : f.askings.items ≡ askings (reverse entries) (reverse entries)
   pub awaited : f.awaited.items ≡ awaited (reverse entries) (reverse entries)
   pub users : HoldUsers (reverse entries) f.users

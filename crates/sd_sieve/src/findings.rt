@@ -7,6 +7,7 @@ ghost use Rattle.sd_sieve.specs.Findings as findings;
 ghost use Rattle.sd_sieve.specs.Whole as held;
 
 use crate::answers::newest_marks;
+use crate::covers::{ByWhat, first_covered, last_voids};
 use crate::servers::{Falls, last_falls};
 use crate::tickets::{awaited, put};
 use crate::users::{Users, users_of};
@@ -23,6 +24,10 @@ use std::alloc::Global;
 pub struct Findings {
     /// Of each entry, whether it holds the newest answer of a key.
     pub newest: Vec<bool>,
+    /// The last invalidation of each name.
+    pub lasts: ByWhat,
+    /// Of each name that is invalidated, the oldest of the newest answers that this covers.
+    pub firsts: ByWhat,
     /// The numbers of the last askings of the open requests.
     pub askings: Vec<u64>,
     /// The numbers of the entries that the tickets that wait will look at.
@@ -69,12 +74,16 @@ pub fn find(alloc: Global, whole: Whole<'_>) -> Result<Findings, Memory>
     ensures { IfOk result (λ found. findings.IsFound whole.entry.entries.now found) }
 {
     let newest = newest_marks(alloc, whole)?;
+    let lasts = last_voids(alloc, whole.entries)?;
+    let firsts = first_covered(alloc, whole.entries, newest.as_slice(), &lasts)?;
     let askings = askings(alloc, whole)?;
     let awaited = awaited(alloc, whole)?;
     let users = users_of(alloc, whole.entries)?;
     let falls = last_falls(alloc, whole.entries)?;
     Ok(Findings {
         newest,
+        lasts,
+        firsts,
         askings,
         awaited,
         users,

@@ -2,6 +2,7 @@
 #![tactic(auto)]
 
 pub mod answers;
+pub mod covers;
 pub mod findings;
 pub mod looked;
 pub mod marks;

@@ -28,14 +28,14 @@ pub struct Users {
 }
 
 /// The number that is kept under a name.
-fn number_under(names: &Names, name: &Text) -> Option<u64>
+pub fn number_under(names: &Names, name: &Text) -> Option<u64>
     ensures { result ≡ users.number_under names.now.entries name.now }
 {
     names.get(name).copied()
 }
 
 /// Keeps a number under a name, where there is one.
-fn put_under(names: &mut Names, name: Option<&Text>, number: u64) -> Result<(), Memory>
+pub fn put_under(names: &mut Names, name: Option<&Text>, number: u64) -> Result<(), Memory>
     ensures { OnOk result ((n : List ℕ) → users.number_under names.new.entries n ≡ users.put_under (option_copied name.entry) number n (users.number_under names.old.entries n)) }
 {
     if let Some(name) = name {
