@@ -11,7 +11,7 @@ use Rattle.sd_desk.specs.Journals.{basis_of, daemon_of}
 
 -- the daemon that the desk was made with
 abbrev pub opening : Desk → Daemon
-opening d = (seats.opening d.turn).core
+opening d = (seats.opening d.turn).core.value
 
 abbrev pub config_of : Desk → Config
 config_of d = d.config

@@ -20,7 +20,7 @@ pub struct Desk {
     turn: Turn<SharedCore>,
     config: Config,
     salts: Salts,
-    ghost settings: { (seats.opening turn).core.settings ≡ config.settings },
+    ghost settings: { (seats.opening turn).core.value.settings ≡ config.settings },
     ghost pwfield: { length config.pwfield ≤ 255 },
 }
 
@@ -48,7 +48,7 @@ impl Desk {
         ensures front { front self.now seat.new ≡ front self.now seat.old }
         ensures step { takes seat.new ≡ takes seat.old + 1 }
         ensures won { OnOk result (found seat.new ≡ 0) }
-        ensures holds { IfOk result (λ held. Holds self.now seat.new held.value.core) }
+        ensures holds { IfOk result (λ held. Holds self.now seat.new held.value.core.value) }
         ensures busy { OnErr result ((found seat.new ≢ 0) × HoldsNoTurn seat.new) }
     {
         self.turn.try_take(&mut seat.seat)
@@ -62,21 +62,21 @@ impl Desk {
         ensures mine { mine seat.new ≡ mine seat.old }
         ensures front { front self.now seat.new ≡ front self.now seat.old }
         ensures won { HasWon seat.old seat.new }
-        ensures holds { Holds self.now seat.new result.value.core }
+        ensures holds { Holds self.now seat.new result.value.core.value }
     {
         self.turn.take(rt, &mut seat.seat)
     }
 
     /// The journal of the core that is given back is the seat's front from then on.
     fn give(&self, seat: &mut DeskSeat, mut held: Held<SharedCore>)
-        requires { MayGive self.now seat.old held.value.core }
+        requires { MayGive self.now seat.old held.value.core.value }
         ensures own { IsOwn self.now seat.new }
         ensures free { HoldsNoTurn seat.new }
         ensures same { IsSameSeat seat.old seat.new }
         ensures tries { SameTries seat.old seat.new }
         ensures mine { mine seat.new ≡ mine seat.old }
-        ensures front { front self.now seat.new ≡ held.value.core }
-        ensures reaches { Reaches (front self.now seat.old) held.value.core }
+        ensures front { front self.now seat.new ≡ held.value.core.value }
+        ensures reaches { Reaches (front self.now seat.old) held.value.core.value }
     {
         let counts = held.value().counts();
         self.turn.give(&mut seat.seat, held);
@@ -91,20 +91,20 @@ impl Desk {
         now: u64,
         event: Event,
     ) -> Result<Given, Refused>
-        requires holds { Holds self.now seat.old held.value.core }
-        requires may { steps.is_steppable held.value.core.past event ≡ true }
+        requires holds { Holds self.now seat.old held.value.core.value }
+        requires may { steps.is_steppable held.value.core.value.past event ≡ true }
         ensures own { IsOwn self.now seat.new }
         ensures free { HoldsNoTurn seat.new }
         ensures same { IsSameSeat seat.old seat.new }
         ensures tries { SameTries seat.old seat.new }
         ensures reaches { Reaches (front self.now seat.old) (front self.now seat.new) }
         ensures made { IfOk result (λ given.
-            MadeOver held.value.core (front self.now seat.new) (mine seat.old) (mine seat.new) now event given) }
-        ensures front { OnErr result (front self.now seat.new ≡ held.value.core) }
+            MadeOver held.value.core.value (front self.now seat.new) (mine seat.old) (mine seat.new) now event given) }
+        ensures front { OnErr result (front self.now seat.new ≡ held.value.core.value) }
         ensures mine { OnErr result (mine seat.new ≡ mine seat.old) }
         ensures back { IfErr result (λ refused. refused.event ≡ event) }
-        ensures full { IfErr result (λ refused. (n : ℕ) → refused.fault ≡ StepFault.JournalFull n → WasFull held.value.core event n) }
-        ensures closing { OnErr result (closes_place held.value.core.past event ≡ false) }
+        ensures full { IfErr result (λ refused. (n : ℕ) → refused.fault ≡ StepFault.JournalFull n → WasFull held.value.core.value event n) }
+        ensures closing { OnErr result (closes_place held.value.core.value.past event ≡ false) }
     {
         match held.value().step(now, event) {
             Ok(given) => {
@@ -356,7 +356,7 @@ impl Desk {
         ensures config { IfOk result (λ made. config_of made.0 ≡ config) }
         ensures salts { IfOk result (λ made. salts_of made.0 ≡ salts) }
     {
-        let shared = SharedCore::new(core);
+        let shared = SharedCore::new(alloc, core)?;
         let counts = shared.counts();
         let (turn, seat) = Turn::new(alloc, shared)?;
         Ok((
@@ -408,6 +408,6 @@ impl Desk {
             left: _,
             hashes: _,
         } = turn.close(seat)?;
-        Ok(core)
+        Ok(Box::into_inner(core))
     }
 }

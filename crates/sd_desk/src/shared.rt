@@ -12,6 +12,7 @@ use sd_base::Memory;
 use sd_core::Core;
 use sd_rules::{Entry, Event, Given, Journal, LoginResult, Refused, Settings, StepFault};
 use sd_turn::Chronicle;
+use std::alloc::Global;
 
 /// What no step and no forget changes. Contracts alone read it: no value is made.
 pub struct Basis {
@@ -23,12 +24,12 @@ pub struct Basis {
 /// A core whose journal is a history of numbered entries.
 #[derive(Drop)]
 pub struct SharedCore {
-    pub(crate) core: Core,
+    pub(crate) core: Box<Core>,
     /// How many entries the last forget left; at first, how many the core came with.
     pub(crate) left: usize,
     /// How many logins came with a hash to be kept.
     pub(crate) hashes: u64,
-    ghost above: { 0 < core.next },
+    ghost above: { 0 < core.value.next },
 }
 
 impl Chronicle for SharedCore {
@@ -41,9 +42,9 @@ impl Chronicle for SharedCore {
 
     type Setting = Basis;
 
-    ghost setting = { λ v. basis_of v.core };
+    ghost setting = { λ v. basis_of v.core.value };
 
-    ghost history = { λ v. history_of v.core };
+    ghost history = { λ v. history_of v.core.value };
 
     ghost number = { λ e. e.number };
 
@@ -67,23 +68,23 @@ fn brings_hash(event: &Event) -> bool {
 
 impl SharedCore {
     /// A core that nothing was forgotten of yet.
-    pub(crate) fn new(core: Core) -> SharedCore
-        ensures { result.core ≡ core }
+    pub(crate) fn new(alloc: Global, core: Core) -> Result<SharedCore, Memory>
+        ensures { IfOk result (λ made. made.core.value ≡ core) }
     {
         // A number of its own is above 0.
         core.next_number();
         let left = core.journal().len();
-        SharedCore {
-            core,
+        Ok(SharedCore {
+            core: Box::new(alloc, core)?,
             left,
             hashes: 0,
-        }
+        })
     }
 
     /// What a seat that gives this core back knows of its journal.
     pub(crate) fn counts(&self) -> Counts
-        ensures next { result.next ≡ self.now.core.next }
-        ensures entries { result.entries ≡ length self.now.core.past }
+        ensures next { result.next ≡ self.now.core.value.next }
+        ensures entries { result.entries ≡ length self.now.core.value.past }
         ensures left { result.left ≡ self.now.left }
         ensures hashes { result.hashes ≡ self.now.hashes }
     {
@@ -97,17 +98,17 @@ impl SharedCore {
 
     /// One step of the core.
     pub(crate) fn step(&mut self, now: u64, event: Event) -> Result<Given, Refused>
-        requires { steps.is_steppable self.old.core.past event ≡ true }
-        ensures made { OnOk result (self.new.core ≡ steps.after self.old.core now event) }
-        ensures given { IfOk result (λ given. given ≡ steps.given self.old.core now event) }
-        ensures room { OnOk result (steps.is_full self.old.core event ≡ false) }
-        ensures full { IfErr result (λ refused. (n : ℕ) → refused.fault ≡ StepFault.JournalFull n → WasFull self.old.core event n) }
+        requires { steps.is_steppable self.old.core.value.past event ≡ true }
+        ensures made { OnOk result (self.new.core.value ≡ steps.after self.old.core.value now event) }
+        ensures given { IfOk result (λ given. given ≡ steps.given self.old.core.value now event) }
+        ensures room { OnOk result (steps.is_full self.old.core.value event ≡ false) }
+        ensures full { IfErr result (λ refused. (n : ℕ) → refused.fault ≡ StepFault.JournalFull n → WasFull self.old.core.value event n) }
         ensures back { IfErr result (λ refused. refused.event ≡ event) }
-        ensures unchanged { OnErr result (self.new.core ≡ self.old.core) }
-        ensures closing { OnErr result (closes_place self.old.core.past event ≡ false) }
-        ensures laws { IfOk result (laws.FollowsLaws self.old.core now event) }
+        ensures unchanged { OnErr result (self.new.core.value ≡ self.old.core.value) }
+        ensures closing { OnErr result (closes_place self.old.core.value.past event ≡ false) }
+        ensures laws { IfOk result (laws.FollowsLaws self.old.core.value now event) }
         ensures texts { IfOk result (HasBoundedTexts event) }
-        ensures reached { reaching.Reaches self.old.core self.new.core }
+        ensures reached { reaching.Reaches self.old.core.value self.new.core.value }
     {
         self.hashes = self.hashes.saturating_add(u64::from(brings_hash(&event)));
         // The core's texts are bounded, and so are those of what it gives.
@@ -117,11 +118,11 @@ impl SharedCore {
 
     /// Forgets what no later event can look at, and hands it back, the oldest first. For want of memory all is kept.
     pub(crate) fn forget(&mut self) -> Result<Journal, Memory>
-        ensures forgotten { OnOk result (self.new.core ≡ reaching.after_forget self.old.core) }
-        ensures back { IfOk result (λ dropped. reverse dropped ≡ needed.forgotten self.old.core.past) }
-        ensures unchanged { OnErr result (self.new.core ≡ self.old.core) }
-        ensures reached { reaching.Reaches self.old.core self.new.core }
-        ensures basis { (self.new.core.settings ≡ self.old.core.settings) × (self.new.core.floor ≡ self.old.core.floor) × (self.new.core.next ≡ self.old.core.next) }
+        ensures forgotten { OnOk result (self.new.core.value ≡ reaching.after_forget self.old.core.value) }
+        ensures back { IfOk result (λ dropped. reverse dropped ≡ needed.forgotten self.old.core.value.past) }
+        ensures unchanged { OnErr result (self.new.core.value ≡ self.old.core.value) }
+        ensures reached { reaching.Reaches self.old.core.value self.new.core.value }
+        ensures basis { (self.new.core.value.settings ≡ self.old.core.value.settings) × (self.new.core.value.floor ≡ self.old.core.value.floor) × (self.new.core.value.next ≡ self.old.core.value.next) }
     {
         let dropped = self.core.forget()?;
         self.left = self.core.journal().len();

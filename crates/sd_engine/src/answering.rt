@@ -18,12 +18,15 @@ pub enum Answered {
     Memory,
 }
 
+/// How many bytes most replies have at most.
+const USUAL_ROOM: usize = 256;
+
 /// The reply frame of what a client is told.
 #[tactic(auto, unfolding(crate::specs::Answering::reply_of))]
 fn reply_frame(alloc: Global, pwfield: &Text, said: &Said) -> Result<Vec<u8>, Memory>
     ensures { IfOk result (λ frame. frame.items ≡ reply_of pwfield.now said.now) }
 {
-    let mut frame = Vec::new(alloc);
+    let mut frame = Vec::with_capacity(alloc, USUAL_ROOM)?;
     write_reply(alloc, &mut frame, said, pwfield)?;
     Ok(frame)
 }

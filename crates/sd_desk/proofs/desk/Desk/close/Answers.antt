@@ -7,4 +7,4 @@ use Rattle.sd_desk.proofs.desk.Desk.close.Goals as goal
 
 pub returns-clause-reached : goal.returns-clause-reached
 returns-clause-reached c =
-    subst (Reaches (front c.args.self c.args.seat)) (daemon_under (basis_of (opening c.args.self)) c.in_ok-core.field-0.core c.in_ok-core.ensures.setting) c.in_ok-core.ensures.follows
+    subst (Reaches (front c.args.self c.args.seat)) (daemon_under (basis_of (opening c.args.self)) c.in_ok-core.field-0.core.value c.in_ok-core.ensures.setting) c.in_ok-core.ensures.follows

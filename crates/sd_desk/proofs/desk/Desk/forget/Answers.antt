@@ -11,9 +11,9 @@ use Rattle.sd_desk.proofs.desk.Desk.forget.Goals as goal
 
 pub returns-clause-forgot : goal.returns-clause-forgot
 returns-clause-forgot g c =
-    let same : c.value.result.now.core ≡ c.take-held.result.value.core = ap (λ (v : SharedCore). v.core) c.value.ensures.value in
-    let given_back : front c.args.self.now c.give.new.seat ≡ c.forget-dropped.new.self.core = search rules in
-    forgot_if_ok (front c.args.self.now c.args.seat.now) c.value.result.now.core c.forget-dropped.new.self.core (front c.args.self.now c.give.new.seat) c.forget-dropped.result
+    let same : c.value.result.now.core.value ≡ c.take-held.result.value.core.value = ap (λ (v : SharedCore). v.core.value) c.value.ensures.value in
+    let given_back : front c.args.self.now c.give.new.seat ≡ c.forget-dropped.new.self.core.value = search rules in
+    forgot_if_ok (front c.args.self.now c.args.seat.now) c.value.result.now.core.value c.forget-dropped.new.self.core.value (front c.args.self.now c.give.new.seat) c.forget-dropped.result
     (subst (λ (d : Daemon). Reaches (front c.args.self.now c.args.seat.now) d) (sym same)
-    (subst (λ (f : Daemon). Reaches f c.take-held.result.value.core) c.take-held.ensures.front c.take-held.ensures.holds.reached))
+    (subst (λ (f : Daemon). Reaches f c.take-held.result.value.core.value) c.take-held.ensures.front c.take-held.ensures.holds.reached))
     given_back c.forget-dropped.ensures.forgotten c.forget-dropped.ensures.back

@@ -6,5 +6,5 @@ use Rattle.sd_desk.proofs.desk.Desk.kept.Goals as goal
 
 pub give-requires : goal.give-requires
 give-requires g c =
-    subst (λ (v : SharedCore). MayGive c.args.self.now c.take-held.new.seat v.core) (sym c.value.ensures.value)
-    (may_give c.args.self.now c.take-held.new.seat c.take-held.result.value.core c.take-held.ensures.holds)
+    subst (λ (v : SharedCore). MayGive c.args.self.now c.take-held.new.seat v.core.value) (sym c.value.ensures.value)
+    (may_give c.args.self.now c.take-held.new.seat c.take-held.result.value.core.value c.take-held.ensures.holds)

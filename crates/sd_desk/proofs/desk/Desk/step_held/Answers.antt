@@ -11,24 +11,24 @@ use Rattle.sd_desk.proofs.desk.Desk.step_held.Goals as goal
 
 pub append-requires-clause-grown : goal.append-requires-clause-grown
 append-requires-clause-grown c =
-    let same : c.value.result.now.core ≡ c.args.held.value.core = ap (λ (v : SharedCore). v.core) c.value.ensures.value in
-    grown_by c.value.result.now.core c.step.new.self.core c.args.now c.args.event (seats.history_now c.args.seat.now.seat)
+    let same : c.value.result.now.core.value ≡ c.args.held.value.core.value = ap (λ (v : SharedCore). v.core.value) c.value.ensures.value in
+    grown_by c.value.result.now.core.value c.step.new.self.core.value c.args.now c.args.event (seats.history_now c.args.seat.now.seat)
     (subst IsKept (sym same) c.requires.holds.kept) c.in-Ok.ensures.made (c.requires.holds.taken.2 ∙ ap history_of (sym same))
 
 pub returns-in-Ok-clause-made : goal.returns-in-Ok-clause-made
 returns-in-Ok-clause-made c =
-    let same : c.value.result.now.core ≡ c.args.held.value.core = ap (λ (v : SharedCore). v.core) c.value.ensures.value in
+    let same : c.value.result.now.core.value ≡ c.args.held.value.core.value = ap (λ (v : SharedCore). v.core.value) c.value.ensures.value in
     let kept = subst IsKept (sym same) c.requires.holds.kept in
-    let ends = ends_with c.value.result.now.core c.step.new.self.core c.args.now c.args.event (seats.history_now c.args.seat.now.seat)
+    let ends = ends_with c.value.result.now.core.value c.step.new.self.core.value c.args.now c.args.event (seats.history_now c.args.seat.now.seat)
     kept c.in-Ok.ensures.made (c.requires.holds.taken.2 ∙ ap history_of (sym same)) in
-    let given_back : front c.args.self.now c.give.new.seat ≡ c.step.new.self.core = search rules in
+    let given_back : front c.args.self.now c.give.new.seat ≡ c.step.new.self.core.value = search rules in
     subst (λ (core : Daemon). MadeOver core (front c.args.self.now c.give.new.seat) (mine c.args.seat.now) (mine c.give.new.seat) c.args.now c.args.event c.in-Ok.given) same
     (record {
       kept = kept;
       room = c.in-Ok.ensures.room;
       front = given_back ∙ c.in-Ok.ensures.made;
       gives = c.in-Ok.ensures.given;
-      mine = c.give.ensures.mine ∙ c.append.ensures.mine (entry_made c.value.result.now.core c.args.now c.args.event) ends;
+      mine = c.give.ensures.mine ∙ c.append.ensures.mine (entry_made c.value.result.now.core.value c.args.now c.args.event) ends;
       laws = c.in-Ok.ensures.laws;
       texts = c.in-Ok.ensures.texts;
     })
