@@ -124,11 +124,14 @@ impl<'r, R: Net + Clock + Eprint> Dialer for WatchedDialer<'r, R> {
     }
 }
 
-/// What each session is made with: connections over TCP, and the system's clock.
+/// What each session is made with: connections over TCP, and the system's clock. It logs when the journal fills, and when it has
+/// room again.
 #[derive(Drop)]
 pub struct SystemTools<'r, R> {
     rt: &'r R,
     health: &'r Health,
+    /// Whether the log says that the journal fills.
+    scarce: bool,
 }
 
 impl<'r, R: Net + Clock + Eprint + Sync> Equipment for SystemTools<'r, R>
@@ -157,6 +160,19 @@ where
 
     fn gate(&mut self) -> OpenGate {
         OpenGate
+    }
+
+    fn note_room(&mut self, scarce: bool) {
+        if scarce == self.scarce {
+            return;
+        }
+        self.scarce = scarce;
+        let news = if scarce {
+            "has nine tenths of the entries that journal_limit allows"
+        } else {
+            "has room again"
+        };
+        let _ = eprintln!(self.rt; "bixethomi: the journal {news}");
     }
 }
 
@@ -294,6 +310,7 @@ where
         SystemTools {
             rt: self.rt,
             health: self.health,
+            scarce: false,
         }
     }
 

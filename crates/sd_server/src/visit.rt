@@ -28,6 +28,9 @@ pub trait Equipment {
 
     /// What is called before a directory is asked.
     fn gate(&mut self) -> Self::Watch;
+
+    /// Is told, after each client that is let in, whether nine tenths of the entries that the journal may hold are taken.
+    fn note_room(&mut self, _scarce: bool) {}
 }
 
 /// A client, with the seat and the things that its session works with.
