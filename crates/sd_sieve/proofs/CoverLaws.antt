@@ -1,5 +1,5 @@
 -- Which invalidations are needed is told by the numbers of entries.
-use Rattle.std.proofs.Common.{◌≡◌, ℕ, ◌<◌, ◌≤◌, Bool, true, false, cond, ◌&&◌, ◌||◌, nat_lt, List, [], ◌∷◌, ◌++◌, reverse, length, get_or, drop, take, ◌+◌, Option, None, Some, refl, sym, ◌∙◌, ap, subst, arith}
+use Rattle.std.proofs.Common.{◌≡◌, ℕ, ◌<◌, ◌≤◌, Bool, true, false, cond, ◌&&◌, ◌||◌, List, [], ◌∷◌, ◌++◌, reverse, length, get_or, drop, take, ◌+◌, Option, None, Some, refl, sym, ◌∙◌, ap, subst, arith}
 use Rattle.std.proofs.lemmas.List.{reverse-append, take_more, take-append-drop}
 use Rattle.std.specs.Cmp.Lexicographic.{bytes_decides}
 use Rattle.std.specs.Prelude.{is_some}
@@ -15,7 +15,7 @@ use Rattle.sd_rules.specs.declared.records.Record.TheVariants as records
 use Rattle.sd_rules.specs.declared.replies.Entry.{Entry}
 use Rattle.sd_rules.specs.Keys.{same_name, is_user_named, is_group_named, covers}
 use Rattle.sd_rules.specs.Logins.{is_name}
-use Rattle.sd_rules.specs.Needed.{same_what, is_void_of, is_number, last_where, is_newest_answer, is_covered, covers_newest, is_void_needed, is_after_asking}
+use Rattle.sd_rules.specs.Needed.{same_what, is_void_of, is_number, last_where, is_newest_answer, is_covered, covers_newest}
 use Rattle.sd_rules.specs.Past.{Standing, answer_in, or_else}
 use Rattle.sd_index.specs.Entries.{numbers_fall, falls}
 use Rattle.sd_index.proofs.FallLaws.{head_below, tail_falls, fall_further, falls_from_some, tests_less, tests_not_less}

@@ -1,5 +1,5 @@
 -- An entry serves nothing where what it may serve is not open.
-use Rattle.std.proofs.Common.{◌≡◌, ℕ, Bool, true, false, cond, ◌&&◌, ◌||◌, ◌==◌, List, [], ◌∷◌, Option, None, Some, refl, sym, ◌∙◌, ap}
+use Rattle.std.proofs.Common.{◌≡◌, ℕ, Bool, true, false, ◌&&◌, List, Option, None, Some, refl, ◌∙◌, ap}
 use Rattle.sd_rules.specs.declared.events.Event.{Event}
 use Rattle.sd_rules.specs.declared.events.Event.TheVariants.{Answer, Pick, Fall}
 use Rattle.sd_rules.specs.declared.replies.Entry.{Entry}

@@ -1,6 +1,5 @@
 -- What is kept by names says what the journal says of users.
-use Rattle.std.proofs.Common.{◌≡◌, ℕ, ◌<◌, ◌≤◌, Bool, true, false, cond, ◌&&◌, ◌||◌, ◌==◌, nat_lt, not, List, [], ◌∷◌, Option, None, Some, refl, sym, ◌∙◌, ap, arith}
-use Rattle.std.proofs.lemmas.Bool.Decides.{nat_tests}
+use Rattle.std.proofs.Common.{◌≡◌, ℕ, Bool, true, false, cond, ◌&&◌, List, [], ◌∷◌, Option, None, Some, refl, sym, ◌∙◌, ap}
 use Rattle.sd_rules.specs.declared.events.Event.{Event}
 use Rattle.sd_rules.specs.declared.events.Event.TheVariants.{LoginOnline, LoginGuess, LoginTry, Kept}
 use Rattle.sd_rules.specs.declared.events.LoginResult.{LoginResult}
@@ -10,11 +9,11 @@ use Rattle.sd_rules.specs.declared.events.Row.TheVariants as rows
 use Rattle.sd_rules.specs.declared.replies.Entry.{Entry}
 use Rattle.sd_rules.specs.declared.replies.Reply.{Reply}
 use Rattle.sd_rules.specs.Keys.{same_name}
-use Rattle.sd_rules.specs.Logins.{Login, user_of, is_name, is_attempt_of, hash_carried, kept_login, login_by, login_in, or_earlier, only_hashed, last_online_login, hash_entry, is_right, is_accepted, accepts}
-use Rattle.sd_rules.specs.Needed.{is_number, is_login, user_if_right, user_of_row, user_logged_in, is_since_accepted}
+use Rattle.sd_rules.specs.Logins.{Login, user_of, is_name, hash_carried, kept_login, login_by, login_in, or_earlier, only_hashed, last_online_login, hash_entry, is_right, is_accepted, accepts}
+use Rattle.sd_rules.specs.Needed.{is_number, is_login, user_if_right, user_of_row, user_logged_in}
 use Rattle.sd_rules.specs.Past.{is_closed}
 use Rattle.sd_rules.specs.Requests.{is_try_accepted}
-use Rattle.sd_sieve.specs.Users.{number_under, put_under, carries_hash, user_of_hash, user_hashed, user_accepted, last_accepting, number_of_login, HoldLogins, HoldHashes, HoldAccepts, is_after}
+use Rattle.sd_sieve.specs.Users.{number_under, put_under, carries_hash, user_of_hash, user_hashed, user_accepted, number_of_login, HoldLogins, HoldHashes, HoldAccepts}
 
 -- a login of a user, by the name of whose it is
 put_is_name : (o : Option (List ℕ)) (number : ℕ) (user : List ℕ) (before : Option ℕ) → put_under o number user before ≡ cond (is_name o user) (Some number) before

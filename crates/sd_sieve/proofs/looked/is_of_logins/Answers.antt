@@ -1,4 +1,4 @@
-use Rattle.std.proofs.Common.{◌≡◌, ℕ, Bool, true, false, ◌||◌, List, Option, reverse, take, refl, sym, ◌∙◌, ap}
+use Rattle.std.proofs.Common.{◌≡◌, ℕ, Bool, true, false, ◌||◌, List, Option, reverse, take, sym, ◌∙◌, ap}
 use Rattle.sd_rules.specs.declared.replies.Entry.{Entry}
 use Rattle.sd_rules.specs.Needed.{is_login_needed, is_wrong_needed, user_logged_in, user_guessed}
 use Rattle.sd_needs.specs.Looks.{is_of_end}

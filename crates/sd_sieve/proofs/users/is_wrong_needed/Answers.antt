@@ -1,4 +1,4 @@
-use Rattle.std.proofs.Common.{◌≡◌, ℕ, Bool, true, false, ◌&&◌, not, ◌==◌, Option, List, refl, ◌∙◌, ap, sym}
+use Rattle.std.proofs.Common.{ℕ, ◌&&◌, not, ◌==◌, Option, List, ◌∙◌, ap, sym}
 use Rattle.std.specs.Option.{option_copied}
 use Rattle.sd_rules.specs.Needed.{is_since_accepted}
 use Rattle.sd_rules.specs.Needed as needed
