@@ -221,7 +221,7 @@ impl Desk {
         let Ok(mut held) = self.try_take(seat) else {
             return Err(CollectFault::Busy);
         };
-        if let Look::Running(request) = held.value().core.look(ticket) {
+        if let Look::Running(request) = held.value().look(ticket) {
             self.give(seat, held);
             return Err(CollectFault::Pending(request));
         }
@@ -258,7 +258,7 @@ impl Desk {
         ensures stopping { result ≡ has_stopped (front self.now seat.new).past }
     {
         let mut held = self.take(rt, seat);
-        let stopping = held.value().core.stopping();
+        let stopping = held.value().stopping();
         self.give(seat, held);
         stopping
     }
@@ -296,7 +296,7 @@ impl Desk {
         ensures texts { IfOk result (λ rows. sum_by bytes_of_row rows ≤ most_text) }
     {
         let mut held = self.take(rt, seat);
-        let rows = held.value().core.kept();
+        let rows = held.value().kept();
         self.give(seat, held);
         rows
     }

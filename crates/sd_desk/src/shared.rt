@@ -1,16 +1,19 @@
 //! The core, as the turn shares it.
-ghost use Rattle.std.specs.Prelude.{◌≡◌, ℕ, ◌<◌, true, false, IfOk, IfErr, OnOk, OnErr, length, reverse};
+ghost use Rattle.std.specs.Prelude.{◌≡◌, ℕ, ◌<◌, ◌≤◌, ◌^◌, ◌*◌, true, false, IfOk, IfErr, OnOk, OnErr, length, reverse, sum_by};
+ghost use Rattle.sd_rules.specs.KeptRows as kept;
 ghost use Rattle.sd_rules.specs.Needed as needed;
 ghost use Rattle.sd_rules.specs.Reaching as reaching;
 ghost use Rattle.sd_rules.specs.Steps as steps;
+ghost use Rattle.sd_rules.specs.TextBytes as bytes;
 ghost use Rattle.sd_past.specs.Closing.{closes_place};
 ghost use Rattle.sd_core.specs.Laws as laws;
+ghost use Rattle.sd_core.specs.Looks as looks;
 ghost use Rattle.sd_desk.specs.Steps.{HasBoundedTexts, WasFull};
 
 use crate::counts::Counts;
 use sd_base::Memory;
-use sd_core::Core;
-use sd_rules::{Entry, Event, Given, Journal, LoginResult, Refused, Settings, StepFault};
+use sd_core::{Core, Look};
+use sd_rules::{Entry, Event, Given, Journal, LoginResult, Refused, Rows, Settings, StepFault};
 use sd_turn::Chronicle;
 use std::alloc::Global;
 
@@ -94,6 +97,29 @@ impl SharedCore {
             left: self.left,
             hashes: self.hashes,
         }
+    }
+
+    /// What a ticket waits for.
+    pub(crate) fn look(&self, ticket: u64) -> Look
+        ensures { result ≡ looks.look_of self.now.core.value.past ticket }
+    {
+        self.core.look(ticket)
+    }
+
+    /// Whether the operator's word to end the daemon was given.
+    pub(crate) fn stopping(&self) -> bool
+        ensures { result ≡ looks.has_stopped self.now.core.value.past }
+    {
+        self.core.stopping()
+    }
+
+    /// The rows that are kept of the journal.
+    pub(crate) fn kept(&self) -> Result<Rows, Memory>
+        ensures rows { IfOk result (λ rows. rows ≡ kept.rows_of self.now.core.value) }
+        ensures few { IfOk result (λ rows. length rows < 2 ^ 32) }
+        ensures texts { IfOk result (λ rows. sum_by bytes.bytes_of_row rows ≤ 512 * 1024 * 1024) }
+    {
+        self.core.kept()
     }
 
     /// One step of the core.
