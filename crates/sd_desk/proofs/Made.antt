@@ -62,6 +62,22 @@ open_runs false r h = let clash : ⊥ = cc in absurd clash
 pub pending_runs : (past : List Entry) (ticket r : ℕ) → IsPending past ticket r → look_of past ticket ≡ Running r
 pending_runs past ticket r p = ap (look_by past) p.waits ∙ open_runs (is_open_request past r) r p.open_yet
 
+open_of : (b : Bool) (q r : ℕ) → (if b then Running q else Closed) ≡ Running r → (b ≡ true) × (q ≡ r)
+open_of true q r h = (refl, cc)
+open_of false q r h = let clash : ⊥ = cc in absurd clash
+
+runs_by : (past : List Entry) (o : Option ℕ) (r : ℕ) → look_by past o ≡ Running r → (o ≡ Some r) × (is_open_request past r ≡ true)
+runs_by past None r h = let clash : ⊥ = cc in absurd clash
+runs_by past (Some q) r h =
+    let found : (is_open_request past q ≡ true) × (q ≡ r) = open_of (is_open_request past q) q r h in
+    (ap Some found.1, subst (λ (n : ℕ). is_open_request past n ≡ true) found.1 found.0)
+
+-- and where it is seen to wait, the request is open
+pub runs_pending : (past : List Entry) (ticket r : ℕ) → look_of past ticket ≡ Running r → IsPending past ticket r
+runs_pending past ticket r h =
+    let found : (waits_for past ticket ≡ Some r) × (is_open_request past r ≡ true) = runs_by past (waits_for past ticket) r h in
+    record { waits = found.0; open_yet = found.1 }
+
 waits_no : (b others : Bool) (r : ℕ) (t : Outcome) → not (is_took (if b then replies.NotYet r else replies.Took t)) && others ≡ true →
     ((if b then Running r else Closed) ≡ Running r → ⊥) → Some r ≡ None
 waits_no true others r t h never = absurd (never refl)

@@ -9,7 +9,7 @@ use Rattle.sd_core.specs.Looks.{look_of}
 use Rattle.sd_desk.specs.declared.shared.SharedCore.{SharedCore}
 use Rattle.sd_desk.specs.Desks.{front, mine, found}
 use Rattle.sd_desk.specs.Steps.{MadeOver, WasFull, IsPending}
-use Rattle.sd_desk.proofs.Made.{pending_runs, full_waits_not, full_was}
+use Rattle.sd_desk.proofs.Made.{pending_runs, runs_pending, full_waits_not, full_was}
 use Rattle.sd_desk.specs.Holding.{MayGive}
 use Rattle.sd_desk.proofs.Giving.{may_give}
 use Rattle.sd_desk.proofs.desk.Desk.collect.Goals as goal
@@ -18,6 +18,14 @@ pub give-requires : goal.give-requires
 give-requires c =
     let same : c.value.result.now.core.value ≡ c.in-Ok.held.value.core.value = ap (λ (v : SharedCore). v.core.value) c.value.ensures.value in
     subst (MayGive c.args.self.now c.try_take.new.seat) (sym same) (may_give c.args.self.now c.try_take.new.seat c.in-Ok.held.value.core.value c.in-Ok.ensures.holds)
+
+pub returns-in-Running-clause-pending : goal.returns-in-Running-clause-pending
+returns-in-Running-clause-pending c = λ request is.
+    let same : c.in-Running.request ≡ request = cc in
+    let at : front c.args.self.now c.give.new.seat ≡ c.value.result.now.core.value = search rules in
+    let looked : look_of c.value.result.now.core.value.past c.args.ticket ≡ Running request = sym c.look.ensures ∙ c.in-Running.is ∙ ap Running same in
+    let won : found c.give.new.seat ≡ 0 = search rules in
+    (won, subst (λ (d : Daemon). IsPending d.past c.args.ticket request) (sym at) (runs_pending c.value.result.now.core.value.past c.args.ticket request looked))
 
 pub returns-in-Ok-step_held-clause-made : goal.returns-in-Ok-step_held-clause-made
 returns-in-Ok-step_held-clause-made c =

@@ -6,6 +6,7 @@ use Rattle.sd_desk.specs.declared.shared.SharedCore.{SharedCore}
 use Rattle.sd_desk.specs.Journals.{history_of}
 use Rattle.sd_desk.specs.Desks.{front, mine}
 use Rattle.sd_desk.specs.Steps.{MadeOver}
+use Rattle.sd_desk.proofs.Giving.{gives_made}
 use Rattle.sd_desk.proofs.Made.{grown_by, ends_with}
 use Rattle.sd_desk.proofs.desk.Desk.step_held.Goals as goal
 
@@ -32,3 +33,11 @@ returns-in-Ok-clause-made c =
       laws = c.in-Ok.ensures.laws;
       texts = c.in-Ok.ensures.texts;
     })
+
+pub give-requires : goal.give-requires
+give-requires c =
+    let same : c.value.result.now.core.value ≡ c.args.held.value.core.value = ap (λ (v : SharedCore). v.core.value) c.value.ensures.value in
+    let kept : c.append.new.held.value.core.value ≡ c.step.new.self.core.value = search rules in
+    gives_made c.args.self.now c.args.seat.now _ c.args.held.value.core.value c.value.result.now.core.value c.step.new.self.core.value
+    c.append.new.held.value.core.value c.args.now c.args.event c.requires.holds same c.in-Ok.ensures.made c.in-Ok.ensures.reached kept c.append.ensures.own c.append.ensures.holds
+    c.append.ensures.taken c.append.ensures.now
