@@ -1,12 +1,12 @@
 //! Clients that are connected, and how those that are idle go back to where clients wait.
 use crate::lobby::MOST_GUESTS;
+use crate::public_door::PublicDoor;
 use crossbeam_queue::ArrayQueue;
 use mio::{Registry, Token, Waker};
 use std::alloc::Global;
 use std::io;
 use std::os::unix::net::UnixStream;
 use std::sync::Wait;
-use std::sync::atomic::{AtomicBool, Ordering};
 
 /// Who comes through a door.
 #[derive(Clone, Copy, Debug, PartialEq, Eq)]
@@ -26,21 +26,26 @@ pub struct Caller {
 }
 
 /// What sessions and the entrance share: the clients that are idle between two frames go back this way, so that a client that
-/// keeps its connection keeps no thread; and whether the daemon ends.
+/// keeps its connection keeps no thread; and the door for every user.
 #[derive(Drop)]
 pub struct WayBack {
     idle: ArrayQueue<Caller, Global>,
     waker: Waker,
-    is_ending: AtomicBool,
+    pub door: PublicDoor,
 }
 
 impl WayBack {
     /// A way that nobody went; who goes it wakes a wait for the events of these sources by this token.
-    pub fn new(alloc: Global, registry: &Registry, token: Token) -> io::Result<WayBack> {
+    pub fn new(
+        alloc: Global,
+        registry: &Registry,
+        token: Token,
+        door: PublicDoor,
+    ) -> io::Result<WayBack> {
         Ok(WayBack {
             idle: ArrayQueue::new(alloc, MOST_GUESTS)?,
             waker: Waker::new(registry, token)?,
-            is_ending: AtomicBool::new(false),
+            door,
         })
     }
 
@@ -58,11 +63,11 @@ impl WayBack {
 
     /// From now on the daemon ends.
     pub fn end(&self) {
-        self.is_ending.store(true, Ordering::SeqCst);
+        self.door.end();
     }
 
     /// Whether the daemon ends.
     pub fn is_ending(&self) -> bool {
-        self.is_ending.load(Ordering::SeqCst)
+        self.door.is_ending()
     }
 }

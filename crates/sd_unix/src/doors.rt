@@ -58,7 +58,7 @@ impl<'r, R: Files + Net + Clock + Wait + Alloc<A = Global>> UnixDoors<'r, R> {
 impl<'r, R: Files + Net + Clock + Wait + Alloc<A = Global>> Doors for UnixDoors<'r, R> {
     type In = ClientSource<'r, R>;
 
-    type Out = ClientSink;
+    type Out = ClientSink<'r, R>;
 
     ghost gave = { λ d. d.gave };
 
@@ -67,7 +67,7 @@ impl<'r, R: Files + Net + Clock + Wait + Alloc<A = Global>> Doors for UnixDoors<
     ghost faults = { λ d. d.faults };
 
     /// Where the system has no descriptor left for a client, it is tried again after a pause.
-    fn accept(&mut self) -> Result<Option<(ClientSource<'r, R>, ClientSink)>, DoorFailed> {
+    fn accept(&mut self) -> Result<Option<(ClientSource<'r, R>, ClientSink<'r, R>)>, DoorFailed> {
         match self.entrance.next_client() {
             Ok(client) => {
                 self.gave = true;

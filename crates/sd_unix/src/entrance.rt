@@ -2,8 +2,9 @@
 ghost use Rattle.std.specs.Prelude.{◌≡◌, IfOk, IfSome};
 
 use crate::callers::{Caller, Visitor, WayBack};
-use crate::connection::{ClientSink, ClientSource};
+use crate::connection::{ClientSink, ClientSource, WayOut};
 use crate::lobby::{Guest, Lobby, MOST_GUESTS};
+use crate::public_door::PublicDoor;
 use crate::socket::ListeningSocket;
 use mio::unix::SourceFd;
 use mio::{Events, Interest, Poll, Token};
@@ -55,7 +56,6 @@ pub struct Entrance<'r, R: Files + Net + Clock> {
     is_administrator_waiting: bool,
     is_anyone_waiting: bool,
     lobby: Lobby<Caller>,
-    next_guest: usize,
     opened: Instant,
     way_back: Arc<WayBack, Global>,
 }
@@ -73,16 +73,19 @@ fn out_of_memory(_error: Memory) -> io::Error {
 }
 
 /// What a caller sends and is sent; `out` is the caller's stream too.
-fn connection<'r, R: Wait>(
+fn connection<'r, R: Wait + Clock>(
     rt: &'r R,
+    alloc: Global,
     caller: Caller,
     out: UnixStream,
     way_back: Arc<WayBack, Global>,
-) -> io::Result<(ClientSource<'r, R>, ClientSink)>
-    ensures { IfOk result (λ made. (⟦<ClientSource<'r, R> as Source>⟧.faults made.0 ≡ 0) × (⟦<ClientSink as Sink>⟧.faults made.1 ≡ 0)) }
+    opened: Instant,
+) -> io::Result<(ClientSource<'r, R>, ClientSink<'r, R>)>
+    ensures { IfOk result (λ made. (⟦<ClientSource<'r, R> as Source>⟧.faults made.0 ≡ 0) × (⟦<ClientSink<'r, R> as Sink>⟧.faults made.1 ≡ 0)) }
 {
-    let sink = ClientSink::new(out)?;
-    Ok((ClientSource::new(rt, caller, way_back)?, sink))
+    let way_out = WayOut::new(alloc, out)?;
+    let source = ClientSource::new(rt, caller, way_out.try_clone()?, way_back, opened)?;
+    Ok((source, ClientSink::new(rt, way_out)))
 }
 
 fn watch(poll: &Poll, descriptor: i32, number: usize) -> io::Result<()> {
@@ -98,7 +101,7 @@ fn forget(poll: &Poll, descriptor: i32) -> io::Result<()> {
 }
 
 /// The second, counted from a moment.
-fn second_since(clock: &impl Clock, moment: &Instant) -> u64 {
+pub fn second_since(clock: &impl Clock, moment: &Instant) -> u64 {
     match moment.elapsed(clock) {
         Ok(passed) => passed.as_secs(),
         Err(_) => 0,
@@ -116,9 +119,16 @@ impl<'r, R: Files + Net + Clock + Wait + Alloc<A = Global>> Entrance<'r, R> {
         let administrator = ListeningSocket::open(rt, own, OWN_MODE)?;
         let public = ListeningSocket::open(rt, shared, PUBLIC_MODE)?;
         let poll = Poll::new(rt)?;
-        let way_back = WayBack::new(alloc, poll.registry(), Token(COMING_BACK))?;
         watch(&poll, administrator.listener.as_raw_fd(), ADMINISTRATOR)?;
-        watch(&poll, public.listener.as_raw_fd(), ANYONE)?;
+        let door = PublicDoor::new(
+            rt,
+            alloc,
+            public.listener.try_clone()?,
+            poll.registry().try_clone()?,
+            Token(ANYONE),
+            FIRST_GUEST,
+        )?;
+        let way_back = WayBack::new(alloc, poll.registry(), Token(COMING_BACK), door)?;
         Ok(Entrance {
             rt,
             administrator,
@@ -128,7 +138,6 @@ impl<'r, R: Files + Net + Clock + Wait + Alloc<A = Global>> Entrance<'r, R> {
             is_administrator_waiting: true,
             is_anyone_waiting: true,
             lobby,
-            next_guest: FIRST_GUEST,
             opened: Instant::now(rt)?,
             way_back: Arc::new(alloc, way_back)?,
         })
@@ -150,8 +159,7 @@ impl<'r, R: Files + Net + Clock + Wait + Alloc<A = Global>> Entrance<'r, R> {
 
     /// Lets somebody in who was not here before.
     fn welcome(&mut self, stream: UnixStream, visitor: Visitor) {
-        let number = self.next_guest;
-        self.next_guest = number.wrapping_add(1).max(FIRST_GUEST);
+        let number = self.way_back.door.number();
         self.let_in(Caller {
             stream,
             visitor,
@@ -241,8 +249,8 @@ impl<'r, R: Files + Net + Clock + Wait + Alloc<A = Global>> Entrance<'r, R> {
     }
 
     /// The first client of the lobby that sent something.
-    fn take_client(&mut self) -> Option<(ClientSource<'r, R>, ClientSink)>
-        ensures { IfSome result (λ made. (⟦<ClientSource<'r, R> as Source>⟧.faults made.0 ≡ 0) × (⟦<ClientSink as Sink>⟧.faults made.1 ≡ 0)) }
+    fn take_client(&mut self) -> Option<(ClientSource<'r, R>, ClientSink<'r, R>)>
+        ensures { IfSome result (λ made. (⟦<ClientSource<'r, R> as Source>⟧.faults made.0 ≡ 0) × (⟦<ClientSink<'r, R> as Sink>⟧.faults made.1 ≡ 0)) }
     {
         let Guest {
             connection: caller,
@@ -253,12 +261,15 @@ impl<'r, R: Files + Net + Clock + Wait + Alloc<A = Global>> Entrance<'r, R> {
         forget(&self.poll, caller.stream.as_raw_fd()).ok()?;
         let out = self.copy_of(&caller.stream).ok()?;
         let way_back = Arc::try_clone(&self.way_back).ok()?;
-        connection(self.rt, caller, out, way_back).ok()
+        self.way_back
+            .door
+            .note_given(second_since(self.rt, &self.opened));
+        connection(self.rt, self.rt.alloc(), caller, out, way_back, self.opened).ok()
     }
 
-    /// The next client.
-    pub fn next_client(&mut self) -> io::Result<(ClientSource<'r, R>, ClientSink)>
-        ensures { IfOk result (λ made. (⟦<ClientSource<'r, R> as Source>⟧.faults made.0 ≡ 0) × (⟦<ClientSink as Sink>⟧.faults made.1 ≡ 0)) }
+    /// Waits for the next client.
+    fn await_client(&mut self) -> io::Result<(ClientSource<'r, R>, ClientSink<'r, R>)>
+        ensures { IfOk result (λ made. (⟦<ClientSource<'r, R> as Source>⟧.faults made.0 ≡ 0) × (⟦<ClientSink<'r, R> as Sink>⟧.faults made.1 ≡ 0)) }
     {
         for _ in 0..u64::MAX {
             if let Some(made) = self.take_client() {
@@ -270,6 +281,16 @@ impl<'r, R: Files + Net + Clock + Wait + Alloc<A = Global>> Entrance<'r, R> {
             self.send_silent_away();
         }
         Err(io::Error::from(ErrorKind::Other))
+    }
+
+    /// The next client.
+    pub fn next_client(&mut self) -> io::Result<(ClientSource<'r, R>, ClientSink<'r, R>)>
+        ensures { IfOk result (λ made. (⟦<ClientSource<'r, R> as Source>⟧.faults made.0 ≡ 0) × (⟦<ClientSink<'r, R> as Sink>⟧.faults made.1 ≡ 0)) }
+    {
+        self.way_back.door.note_waiting(true);
+        let next = self.await_client();
+        self.way_back.door.note_waiting(false);
+        next
     }
 
     /// From now on the connections that were given end once their clients are between two frames.

@@ -7,6 +7,7 @@ mod doors;
 mod entrance;
 mod lobby;
 mod place;
+mod public_door;
 mod socket;
 
 pub use callers::Visitor;
