@@ -31,6 +31,12 @@
 
 static const int64_t nanoseconds_of_second = 1000000000;
 
+/* A reply to a request that was sent ahead answers no question that comes later than this. */
+enum { LONGEST_AHEAD_NANOSECONDS = 20000000 };
+
+/* Where a request has its command: behind its length. */
+enum { COMMAND_PLACE = 4 };
+
 static int64_t monotonic_now(void)
 {
     struct timespec now;
@@ -114,19 +120,19 @@ static enum exchange_end connect_to_daemon(int descriptor)
 }
 
 /* A lookup that the daemon makes, of a server's name, must not wait for the daemon. */
-static bool is_own_socket(int descriptor)
+static bool is_own_socket(const struct connection *connection)
 {
     struct ucred peer;
     socklen_t size = sizeof peer;
 
-    if (getsockopt(descriptor, SOL_SOCKET, SO_PEERCRED, &peer, &size) != 0)
+    if (getsockopt(connection->descriptor, SOL_SOCKET, SO_PEERCRED, &peer, &size) != 0)
         return false;
-    return peer.pid == getpid();
+    return peer.pid == connection->process;
 }
 
 static enum exchange_end wait_for(const struct exchange *exchange, short event)
 {
-    struct pollfd waited = { .fd = exchange->descriptor, .events = event };
+    struct pollfd waited = { .fd = exchange->connection.descriptor, .events = event };
 
     for (;;) {
         int64_t left = time_left(exchange->deadline);
@@ -142,13 +148,12 @@ static enum exchange_end wait_for(const struct exchange *exchange, short event)
     }
 }
 
-static enum exchange_end send_request(const struct exchange *exchange, const struct request *request)
+static enum exchange_end send_bytes(const struct exchange *exchange, const unsigned char *bytes, size_t length)
 {
     size_t sent = 0;
 
-    while (sent < request->length) {
-        ssize_t count = send(exchange->descriptor, request->bytes + sent, request->length - sent,
-                             MSG_NOSIGNAL | MSG_DONTWAIT);
+    while (sent < length) {
+        ssize_t count = send(exchange->connection.descriptor, bytes + sent, length - sent, MSG_NOSIGNAL | MSG_DONTWAIT);
 
         if (count >= 0) {
             sent += (size_t)count;
@@ -169,35 +174,39 @@ static enum exchange_end receive(const struct exchange *exchange, struct iovec *
 {
     for (;;) {
         struct msghdr message = { .msg_iov = parts, .msg_iovlen = count };
-        enum exchange_end end = wait_for(exchange, POLLIN);
-        ssize_t bytes;
-
-        if (end != EXCHANGE_WELL)
-            return end;
         /* Should descriptors come with the bytes, they are not taken: there is no room for them. */
-        bytes = recvmsg(exchange->descriptor, &message, MSG_DONTWAIT | MSG_CMSG_CLOEXEC);
+        ssize_t bytes = recvmsg(exchange->connection.descriptor, &message, MSG_DONTWAIT | MSG_CMSG_CLOEXEC);
+
         if (bytes > 0) {
             *taken = (size_t)bytes;
             return EXCHANGE_WELL;
         }
         if (bytes == 0 || (errno != EAGAIN && errno != EINTR))
             return EXCHANGE_BROKEN;
+        if (errno == EAGAIN) {
+            enum exchange_end end = wait_for(exchange, POLLIN);
+
+            if (end != EXCHANGE_WELL)
+                return end;
+        }
     }
 }
 
-/* The length of the reply, with what came of its text. */
+/* The length of the reply, with what came of its text. Where other replies come behind it, bytes of theirs are not
+ * taken with it. */
 static enum exchange_end receive_front(struct exchange *exchange, char *text, size_t room)
 {
     unsigned char header[4];
     size_t have = 0;
 
+    exchange->length = 0;
     while (have < sizeof header) {
         struct iovec parts[2] = {
             { .iov_base = header + have, .iov_len = sizeof header - have },
             { .iov_base = text, .iov_len = room },
         };
         size_t taken = 0;
-        enum exchange_end end = receive(exchange, parts, 2, &taken);
+        enum exchange_end end = receive(exchange, parts, exchange->connection.ahead.count > 0 ? 1 : 2, &taken);
 
         if (end != EXCHANGE_WELL)
             return end;
@@ -216,51 +225,53 @@ static enum exchange_end receive_front(struct exchange *exchange, char *text, si
  * others under their numbers, and by the process, since a child that was forked has its parent's. */
 static struct {
     pthread_mutex_t lock;
-    int descriptor;
-    pid_t process;
-    dev_t device;
-    ino_t file;
-} kept = { .lock = PTHREAD_MUTEX_INITIALIZER, .descriptor = -1 };
+    struct connection connection;
+} kept = { .lock = PTHREAD_MUTEX_INITIALIZER, .connection = { .descriptor = -1 } };
 
-static bool is_file(int descriptor, dev_t device, ino_t file)
+static const struct connection no_connection = { .descriptor = -1 };
+
+static bool is_its_file(const struct connection *connection)
 {
     struct stat status;
 
-    return fstat(descriptor, &status) == 0 && S_ISSOCK(status.st_mode) && status.st_dev == device && status.st_ino == file;
+    return fstat(connection->descriptor, &status) == 0 && S_ISSOCK(status.st_mode)
+        && status.st_dev == connection->device && status.st_ino == connection->file;
 }
 
-/* The kept connection, which is nobody else's then; below 0 where there is none. */
-static int take_kept(void)
+static void end_connection(struct connection *connection)
 {
-    int descriptor = -1;
+    if (connection->descriptor >= 0)
+        close(connection->descriptor);
+    *connection = no_connection;
+}
+
+/* The kept connection, which is nobody else's then; none where none is kept. */
+static struct connection take_kept(void)
+{
+    struct connection taken;
 
     /* In a child of a thread that held the lock it stays held. */
     if (pthread_mutex_trylock(&kept.lock) != 0)
-        return -1;
-    if (kept.descriptor >= 0 && is_file(kept.descriptor, kept.device, kept.file)) {
-        if (kept.process == getpid())
-            descriptor = kept.descriptor;
-        else
-            close(kept.descriptor);
-    }
-    kept.descriptor = -1;
+        return no_connection;
+    taken = kept.connection;
+    kept.connection = no_connection;
     pthread_mutex_unlock(&kept.lock);
-    return descriptor;
+    if (taken.descriptor < 0 || !is_its_file(&taken))
+        return no_connection;
+    if (taken.process != getpid())
+        end_connection(&taken);
+    return taken;
 }
 
 /* Whether the connection is kept: not where another is. */
-static bool keep(int descriptor)
+static bool keep(const struct connection *connection)
 {
-    struct stat status;
     bool is_kept = false;
 
-    if (fstat(descriptor, &status) != 0 || pthread_mutex_trylock(&kept.lock) != 0)
+    if (pthread_mutex_trylock(&kept.lock) != 0)
         return false;
-    if (kept.descriptor < 0) {
-        kept.descriptor = descriptor;
-        kept.process = getpid();
-        kept.device = status.st_dev;
-        kept.file = status.st_ino;
+    if (kept.connection.descriptor < 0) {
+        kept.connection = *connection;
         is_kept = true;
     }
     pthread_mutex_unlock(&kept.lock);
@@ -270,51 +281,119 @@ static bool keep(int descriptor)
 /* A program that unloads the module has no descriptor left of it. */
 __attribute__((destructor)) static void close_kept(void)
 {
-    int descriptor = take_kept();
+    struct connection connection = take_kept();
 
-    if (descriptor >= 0)
-        close(descriptor);
+    end_connection(&connection);
 }
 
 static enum exchange_end ask(struct exchange *exchange, const struct request *request, char *text, size_t room)
 {
-    enum exchange_end end = send_request(exchange, request);
+    enum exchange_end end = send_bytes(exchange, request->bytes, request->length);
 
     return end == EXCHANGE_WELL ? receive_front(exchange, text, room) : end;
 }
 
-static enum exchange_end ask_anew(struct exchange *exchange, const struct request *request, char *text, size_t room)
+static enum exchange_end open_connection(struct connection *connection)
+{
+    struct stat status;
+    enum exchange_end end;
+
+    connection->descriptor = above_standard_streams(socket(AF_UNIX, SOCK_STREAM | SOCK_CLOEXEC, 0));
+    if (connection->descriptor < 0 || fstat(connection->descriptor, &status) != 0)
+        return EXCHANGE_STARVED;
+    connection->device = status.st_dev;
+    connection->file = status.st_ino;
+    connection->process = getpid();
+    end = connect_to_daemon(connection->descriptor);
+    return end == EXCHANGE_WELL && is_own_socket(connection) ? EXCHANGE_NO_DAEMON : end;
+}
+
+static bool is_number_of_group(const struct request *request)
+{
+    return request->bytes[COMMAND_PLACE] == COMMAND_GID;
+}
+
+/* Takes the whole reply that comes next, and drops it. */
+static enum exchange_end drop_reply(struct exchange *exchange)
+{
+    char piece[512];
+    enum exchange_end end = receive_front(exchange, piece, sizeof piece);
+
+    while (end == EXCHANGE_WELL && exchange->received < exchange->length) {
+        size_t taken = 0;
+
+        end = exchange_take(exchange, piece, sizeof piece, &taken);
+    }
+    return end;
+}
+
+/* The front of the reply to a request that was sent ahead: those in front of it are dropped. */
+static enum exchange_end take_ahead(struct exchange *exchange, const struct request *request, char *text, size_t room)
+{
+    struct ahead *ahead = &exchange->connection.ahead;
+
+    while (ahead->count > 0) {
+        bool is_asked = memcmp(ahead->requests[ahead->first], request->bytes, NUMBER_REQUEST) == 0;
+        enum exchange_end end;
+
+        ahead->first++;
+        ahead->count--;
+        end = is_asked ? receive_front(exchange, text, room) : drop_reply(exchange);
+        if (is_asked || end != EXCHANGE_WELL)
+            return end;
+    }
+    return EXCHANGE_BROKEN;
+}
+
+/* Whether the request was sent ahead, a moment ago. */
+static bool was_sent_ahead(const struct ahead *ahead, const struct request *request)
+{
+    if (!is_number_of_group(request) || monotonic_now() - ahead->sent > LONGEST_AHEAD_NANOSECONDS)
+        return false;
+    for (size_t i = ahead->first; i < ahead->first + ahead->count; i++)
+        if (memcmp(ahead->requests[i], request->bytes, NUMBER_REQUEST) == 0)
+            return true;
+    return false;
+}
+
+/* Asks over the kept connection, where it has no replies on their way but this question's. */
+static enum exchange_end ask_kept(struct exchange *exchange, const struct request *request, char *text, size_t room)
+{
+    const struct ahead *ahead = &exchange->connection.ahead;
+
+    if (ahead->count == 0)
+        return ask(exchange, request, text, room);
+    return was_sent_ahead(ahead, request) ? take_ahead(exchange, request, text, room) : EXCHANGE_BROKEN;
+}
+
+static enum exchange_end ask_over(struct exchange *exchange, const struct request *request, char *text, size_t room)
 {
     enum exchange_end end;
 
-    exchange->descriptor = above_standard_streams(socket(AF_UNIX, SOCK_STREAM | SOCK_CLOEXEC, 0));
-    if (exchange->descriptor < 0)
-        return EXCHANGE_STARVED;
-    end = connect_to_daemon(exchange->descriptor);
-    if (end == EXCHANGE_WELL && is_own_socket(exchange->descriptor))
-        end = EXCHANGE_NO_DAEMON;
+    if (exchange->connection.descriptor >= 0) {
+        end = ask_kept(exchange, request, text, room);
+        if (end != EXCHANGE_BROKEN)
+            return end;
+        /* The daemon ended it, or is another one by now, or other replies are on their way. */
+        end_connection(&exchange->connection);
+    }
+    end = open_connection(&exchange->connection);
     return end == EXCHANGE_WELL ? ask(exchange, request, text, room) : end;
 }
 
 enum exchange_end exchange_open(struct exchange *exchange, enum connection_use use, const struct request *request, char *text,
                                 size_t room)
 {
-    *exchange = (struct exchange){ .descriptor = -1, .use = use };
+    enum exchange_end end;
+
+    *exchange = (struct exchange){ .use = use, .connection = no_connection };
     exchange->deadline = monotonic_now() + BIXETHOMI_QUESTION_SECONDS * nanoseconds_of_second;
     pthread_setcancelstate(PTHREAD_CANCEL_DISABLE, &exchange->cancel_state);
     if (use == CONNECTION_KEPT)
-        exchange->descriptor = take_kept();
-    if (exchange->descriptor >= 0) {
-        enum exchange_end end = ask(exchange, request, text, room);
-
-        if (end != EXCHANGE_BROKEN)
-            return end;
-        /* The daemon ended it, or is another one by now. */
-        close(exchange->descriptor);
-        exchange->descriptor = -1;
-        exchange->length = exchange->received = 0;
-    }
-    return ask_anew(exchange, request, text, room);
+        exchange->connection = take_kept();
+    end = ask_over(exchange, request, text, room);
+    exchange->connection.names_groups |= is_number_of_group(request);
+    return end;
 }
 
 enum exchange_end exchange_take(struct exchange *exchange, char *piece, size_t room, size_t *taken)
@@ -346,12 +425,28 @@ static bool is_whole(const struct exchange *exchange)
     return exchange->use == CONNECTION_KEPT && exchange->length > 0 && exchange->received == exchange->length;
 }
 
+void exchange_ask_ahead(struct exchange *exchange, const uint32_t *groups, size_t count)
+{
+    struct ahead *ahead = &exchange->connection.ahead;
+    struct request request;
+
+    if (!exchange->connection.names_groups || !is_whole(exchange) || ahead->count > 0)
+        return;
+    ahead->first = 0;
+    for (size_t i = 0; i < count && i < MOST_AHEAD; i++)
+        if (request_by_number(&request, COMMAND_GID, groups[i]))
+            memcpy(ahead->requests[ahead->count++], request.bytes, NUMBER_REQUEST);
+    ahead->sent = monotonic_now();
+    if (send_bytes(exchange, ahead->requests[0], ahead->count * NUMBER_REQUEST) != EXCHANGE_WELL)
+        end_connection(&exchange->connection);
+}
+
 void exchange_close(struct exchange *exchange)
 {
     int ignored;
 
-    if (exchange->descriptor >= 0 && !(is_whole(exchange) && keep(exchange->descriptor)))
-        close(exchange->descriptor);
-    exchange->descriptor = -1;
+    if (!(is_whole(exchange) && keep(&exchange->connection)))
+        end_connection(&exchange->connection);
+    exchange->connection = no_connection;
     pthread_setcancelstate(exchange->cancel_state, &ignored);
 }

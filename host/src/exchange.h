@@ -8,6 +8,7 @@
 #include <stdbool.h>
 #include <stddef.h>
 #include <stdint.h>
+#include <sys/types.h>
 
 #include "frames.h"
 
@@ -24,8 +25,26 @@ enum connection_use {
     CONNECTION_KEPT /* for requests that may be made twice: the daemon may end a kept one meanwhile */
 };
 
-struct exchange {
+enum { MOST_AHEAD = 16 };
+
+/* Requests for groups by their numbers that were sent before anybody asked for them; their replies come in this order. */
+struct ahead {
+    unsigned char requests[MOST_AHEAD][NUMBER_REQUEST];
+    size_t first, count; /* of those whose replies were not taken */
+    int64_t sent;        /* nanoseconds of the monotonic clock */
+};
+
+struct connection {
     int descriptor; /* below 0 where there is none */
+    pid_t process;  /* whose it is */
+    dev_t device;   /* with the file, by which it is told from others under its descriptor */
+    ino_t file;
+    bool names_groups; /* a group was asked for by its number */
+    struct ahead ahead;
+};
+
+struct exchange {
+    struct connection connection;
     enum connection_use use;
     int cancel_state;
     int64_t deadline; /* nanoseconds of the monotonic clock */
@@ -46,6 +65,11 @@ enum exchange_end exchange_take(struct exchange *exchange, char *piece, size_t r
 /* Takes the text up to `wanted` bytes, which are at most its length, into `text`, whose front has
  * what was received before. */
 enum exchange_end exchange_fill(struct exchange *exchange, char *text, size_t wanted);
+
+/* Asks for groups by their numbers, at most for MOST_AHEAD of them, without a wait for their replies, where the whole
+ * reply was taken and a group was asked for by its number over this connection: who asked for a group's name before it asked
+ * for a user's groups asks for their names next. Questions that come within a moment take the replies. */
+void exchange_ask_ahead(struct exchange *exchange, const uint32_t *groups, size_t count);
 
 /* Keeps the connection where that is asked and the whole reply was taken, or closes it. */
 void exchange_close(struct exchange *exchange);

@@ -10,6 +10,7 @@
 enum {
     LONGEST_NAME = 255,      /* bytes of a user's, a group's or a service's name; the shortest has one */
     LONGEST_PASSWORD = 1024, /* bytes; a password may be empty */
+    NUMBER_REQUEST = 4 + 1 + 4, /* bytes of a request by a number */
     LONGEST_REQUEST = 4 + 1 + 2 + LONGEST_NAME + 2 + LONGEST_PASSWORD
 };
 
