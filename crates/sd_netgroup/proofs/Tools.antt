@@ -1,20 +1,16 @@
 -- Endings of the tools, by what the inputs tell.
 use Rattle.std.specs.Prelude.{IfSome}
 use Rattle.std.specs.Io.KnownBytes.{Appends}
-use Rattle.std.proofs.Common.{◌≡◌, ◌≢◌, ℕ, List, Option, Some, None, sym, subst, inl, inr, arith}
+use Rattle.std.proofs.Common.{◌≡◌, ◌≢◌, ℕ, List, Option, Some, None, refl, sym, subst, inl, inr, arith}
 use Rattle.sd_ldap.specs.declared.entry.DirEntry.{DirEntry}
+use Rattle.sd_stub.specs.Keeping.{kept}
 use Rattle.sd_tools.specs.declared.endings.TheConstants.{WRITE_FAULT}
-use Rattle.sd_netgroup.specs.declared.inputs.Stop.TheVariants as stops
+use Rattle.sd_inputs.specs.declared.inputs.Inputs.{Inputs}
+use Rattle.sd_inputs.specs.declared.inputs.Stop.TheVariants as stops
+use Rattle.sd_inputs.specs.Inputs.{AreInputs, StopsAt}
+use Rattle.sd_netgroup.specs.declared.directory.Answer.{Answer}
 use Rattle.sd_netgroup.specs.declared.words.Question.{Question}
-use Rattle.sd_netgroup.specs.Inputs.{IsBase, AreEntries}
-use Rattle.sd_netgroup.specs.Endings.{Ends, IsEnding, StopsAt, OfInputs}
-
--- what holds of the texts that both inputs tell
-pub both_told : (conf ldif : Option (List ℕ)) (base : List ℕ) (read : List DirEntry) (P : List ℕ → List ℕ → Type 0) → IfSome conf (λ c. IsBase c base) → IfSome ldif (λ l. AreEntries l read)
-    → ((c l : List ℕ) → IsBase c base → AreEntries l read → P c l) → IfSome conf (λ c. IfSome ldif (λ l. P c l))
-both_told None ldif base read P b e f = tt
-both_told (Some c) None base read P b e f = tt
-both_told (Some c) (Some l) base read P b e f = f c l b e
+use Rattle.sd_netgroup.specs.Endings.{IsAnswer, Tells, Ends, IsEnding, OfInputs}
 
 -- want of memory has no cause
 pub no_cause : (conf ldif : Option (List ℕ)) → IfSome conf (λ c. IfSome ldif (λ l. StopsAt stops.Memory c l))
@@ -26,6 +22,21 @@ told_by : (conf ldif : Option (List ℕ)) (P R : List ℕ → List ℕ → Type 
 told_by None ldif P R h f = tt
 told_by (Some c) None P R h f = tt
 told_by (Some c) (Some l) P R h f = f c l h
+
+-- what was read, and what it comes to
+pub read_ends : (conf ldif : Option (List ℕ)) (inputs : Inputs) (q : Question) (status : ℕ) (output : List ℕ) → IfSome conf (λ c. IfSome ldif (λ l. AreInputs c l inputs))
+    → ((c l : List ℕ) → AreInputs c l inputs → Ends q c l status output) → IfSome conf (λ c. IfSome ldif (λ l. Ends q c l status output))
+read_ends conf ldif inputs q status output h f = told_by conf ldif (λ c l. AreInputs c l inputs) (λ c l. Ends q c l status output) h f
+
+-- an answer over the entries that were read
+pub tells : (conf ldif : List ℕ) (q : Question) (inputs : Inputs) (read : List DirEntry) (answer : Answer) → read ≡ inputs.entries → IsAnswer (kept read) inputs.config.base q.name answer
+    → AreInputs conf ldif inputs → Tells conf ldif q answer
+tells conf ldif q inputs read answer same is are = record {
+  config = inputs.config;
+  entries = kept inputs.entries;
+  reads = record { is_config = are.is_config; read = inputs.entries; are_read = are.are_entries; keeps = refl };
+  is = subst (λ (es : List DirEntry). IsAnswer (kept es) inputs.config.base q.name answer) same is;
+}
 
 -- an ending that was written
 pub ends_told : (question : Option Question) (conf ldif held held' : Option (List ℕ)) (q : Question) (status result : ℕ) (output : List ℕ) → Some q ≡ question → IfSome conf (λ c. IfSome ldif (λ l. Ends q c l status output))

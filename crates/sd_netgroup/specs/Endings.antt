@@ -1,6 +1,10 @@
 -- How the tools end: by which status, and what is written.
-use Rattle.std.specs.Prelude.{◌≡◌, ◌⊎◌, ℕ, ◌<◌, true, false, List, length, codes, Option, IfSome}
+use Rattle.std.specs.Prelude.{◌≡◌, ◌⊎◌, ℕ, true, false, List, codes, Option, IfSome}
 use Rattle.sd_base.specs.declared.Why.{Why}
+use Rattle.sd_conf.specs.declared.config.Config.{Config}
+use Rattle.sd_inputs.specs.declared.endings.TheConstants.{REFUSED}
+use Rattle.sd_inputs.specs.Endings.{too_long}
+use Rattle.sd_inputs.specs.Inputs.{IsConfig, AreEntries, AreTooLong, AreRefused}
 use Rattle.sd_ldap.specs.declared.entry.DirEntry.{DirEntry}
 use Rattle.sd_dial.specs.Entries.{Behind, shortest}
 use Rattle.sd_stub.specs.Keeping.{kept}
@@ -10,15 +14,12 @@ use Rattle.sd_netgroup.specs.declared.asking.Netted.{Netted}
 use Rattle.sd_netgroup.specs.declared.asking.Netted.TheVariants as nets
 use Rattle.sd_netgroup.specs.declared.directory.Answer.{Answer}
 use Rattle.sd_netgroup.specs.declared.directory.Answer.TheVariants as answers
-use Rattle.sd_netgroup.specs.declared.tool.TheConstants.{REFUSED, NO_NETGROUP, DIRECTORY_LIMIT}
-use Rattle.sd_netgroup.specs.declared.inputs.Stop.{Stop}
-use Rattle.sd_netgroup.specs.declared.inputs.Stop.TheVariants as stops
+use Rattle.sd_netgroup.specs.declared.tool.TheConstants.{NO_NETGROUP, DIRECTORY_LIMIT}
 use Rattle.sd_netgroup.specs.declared.words.Question.{Question}
 use Rattle.sd_netgroup.specs.Named.{named_in}
 use Rattle.sd_netgroup.specs.Paths.{AreTriplesOf}
 use Rattle.sd_netgroup.specs.Rounds.{is_some}
 use Rattle.sd_netgroup.specs.Printing.{printed}
-use Rattle.sd_netgroup.specs.Inputs.{conf_limit, ldif_limit, IsBase, AreEntries, IsConfRefused, IsLdifRefused}
 use Rattle.sd_netgroup.specs.Told.{AreWithin, MeetLimit}
 
 -- ---- over a directory in memory
@@ -63,39 +64,34 @@ no_netgroup = codes "no netgroup\n"
 abbrev pub directory_limit : List ℕ
 directory_limit = codes "directory limit\n"
 
-abbrev pub too_long : List ℕ
-too_long = codes "too long\n"
-
 -- ---- by the texts of the two inputs
 
--- The configuration has this base, and the directory is made of these entries: of those with equal DNs it keeps
--- the last.
-pub record Reads (conf ldif base : List ℕ) (entries : List DirEntry) : Type 0 where
-  pub is_base : IsBase conf base
+-- The configuration is read, and the directory is made of these entries: of those with equal DNs it keeps the last.
+pub record Reads (conf ldif : List ℕ) (config : Config) (entries : List DirEntry) : Type 0 where
+  pub is_config : IsConfig conf config
   pub read : List DirEntry
   pub are_read : AreEntries ldif read
   pub keeps : entries ≡ kept read
 
--- the base and the entries, and what holds of them
-pub record OfDirectory (conf ldif : List ℕ) (P : List DirEntry → List ℕ → Type 0) : Type 0 where
-  pub base : List ℕ
+-- an answer to a question, by the two texts
+pub record Tells (conf ldif : List ℕ) (q : Question) (answer : Answer) : Type 0 where
+  pub config : Config
   pub entries : List DirEntry
-  pub reads : Reads conf ldif base entries
-  pub holds : P entries base
+  pub reads : Reads conf ldif config entries
+  pub is : IsAnswer entries config.base q.name answer
+
+-- the entries and the search base, and what holds of them
+pub record OfDirectory (conf ldif : List ℕ) (P : List DirEntry → List ℕ → Type 0) : Type 0 where
+  pub config : Config
+  pub entries : List DirEntry
+  pub reads : Reads conf ldif config entries
+  pub holds : P entries config.base
 
 -- the triples are printed as asked
 pub record IsPrinted (q : Question) (output : List ℕ) (entries : List DirEntry) (base : List ℕ) : Type 0 where
   pub triples : List Triple
   pub found : AreFound entries base q.name triples
   pub is : output ≡ printed triples q.member
-
--- the configuration is too long; or it is taken, and the entries are too long
-abbrev pub AreTooLong : List ℕ → List ℕ → Type 0
-AreTooLong conf ldif = (conf_limit < length conf) ⊎ ((base : List ℕ) × IsBase conf base × (ldif_limit < length ldif))
-
--- the configuration is refused; or it is taken, and the entries are refused
-abbrev pub AreRefused : List ℕ → List ℕ → List ℕ → Type 0
-AreRefused conf ldif output = IsConfRefused conf output ⊎ ((base : List ℕ) × IsBase conf base × IsLdifRefused ldif output)
 
 -- The status and the output: done; no netgroup; a limit of the directory; an input too long; an input refused.
 abbrev pub Ends : Question → List ℕ → List ℕ → ℕ → List ℕ → Type 0
@@ -109,20 +105,6 @@ Ends q conf ldif status output =
 -- the statuses of these
 abbrev pub IsEnding : ℕ → Type 0
 IsEnding status = (status ≡ DONE) ⊎ ((status ≡ NO_NETGROUP) ⊎ ((status ≡ DIRECTORY_LIMIT) ⊎ ((status ≡ TOO_LONG) ⊎ (status ≡ REFUSED))))
-
--- why an input was not taken
-abbrev pub StopsAt : Stop → List ℕ → List ℕ → Type 0
-StopsAt stops.ReadFault conf ldif = Unit {0}
-StopsAt stops.TooLong conf ldif = AreTooLong conf ldif
-StopsAt (stops.Refused output) conf ldif = AreRefused conf ldif output
-StopsAt stops.Memory conf ldif = Unit {0}
-
--- how that is told
-abbrev pub StopEnds : Stop → ℕ → List ℕ → Type 0
-StopEnds stops.ReadFault status output = ⊥
-StopEnds stops.TooLong status output = (status ≡ TOO_LONG) × (output ≡ too_long)
-StopEnds (stops.Refused text) status output = (status ≡ REFUSED) × (output ≡ text)
-StopEnds stops.Memory status output = ⊥
 
 -- a fact of what the words ask and of the two inputs, where the words have a form and the sources tell
 abbrev pub OfInputs : Option Question → Option (List ℕ) → Option (List ℕ) → (Question → List ℕ → List ℕ → Type 0) → Type 0

@@ -8,5 +8,4 @@ pub mod Stepping
 pub mod Told
 pub mod Words
 pub mod Printing
-pub mod Inputs
 pub mod Endings

@@ -4,7 +4,6 @@
 mod asking;
 mod directory;
 mod finds;
-mod inputs;
 mod named;
 mod order;
 mod printing;
@@ -15,4 +14,4 @@ mod words;
 
 pub use asking::{Netted, netgroup};
 pub use sd_triples::{Triple, TripleFault, Triples, in_netgroup, read_triple};
-pub use tool::{DIRECTORY_LIMIT, NO_NETGROUP, REFUSED, netgroup_tool};
+pub use tool::{DIRECTORY_LIMIT, NO_NETGROUP, netgroup_tool};

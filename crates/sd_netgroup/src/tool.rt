@@ -3,22 +3,19 @@ ghost use Rattle.std.specs.Prelude.{◌≡◌, ◌≢◌, ◌⊎◌, ℕ, List, 
 ghost use Rattle.std.specs.Io.KnownBytes.{Appends};
 ghost use Rattle.sd_base.specs.Causes.{Rose};
 ghost use Rattle.sd_base.specs.Written.{AppendsFront};
-ghost use Rattle.sd_ldap.specs.declared.entry.DirEntry.{DirEntry};
 ghost use Rattle.sd_tools.specs.Endings as endings;
 ghost use Rattle.sd_netgroup.specs.Words as forms;
-ghost use Rattle.sd_netgroup.specs.Endings.{Reads, IsAnswer, Ends, IsEnding, StopsAt, StopEnds, OfInputs, OfDirectory, IsPrinted, IsStatus};
+ghost use Rattle.sd_inputs.specs.Inputs.{AreInputs, StopsAt};
+ghost use Rattle.sd_netgroup.specs.Endings.{Tells, Ends, IsEnding, OfInputs, OfDirectory, IsPrinted, IsStatus};
 
 use crate::directory::{Answer, look};
-use crate::inputs::{Stop, read_base, read_entries};
 use crate::printing::printed;
 use crate::words::{Question, question_of};
-use sd_base::{Memory, Sink, Source, Text};
+use sd_base::{Memory, Sink, Source};
+use sd_inputs::{Ending, Inputs, Stop, ending_with, read_inputs, stopped};
 use sd_tools::endings::end;
-use sd_tools::{DONE, NO_MEMORY, READ_FAULT, Status, TOO_LONG, USAGE, WRITE_FAULT};
+use sd_tools::{DONE, NO_MEMORY, READ_FAULT, Status, USAGE, WRITE_FAULT};
 use std::alloc::Global;
-
-/// The configuration, or the entries, are refused.
-pub const REFUSED: Status = 10;
 
 /// No netgroup has the name.
 pub const NO_NETGROUP: Status = 15;
@@ -26,25 +23,9 @@ pub const NO_NETGROUP: Status = 15;
 /// A search meets a limit of the directory.
 pub const DIRECTORY_LIMIT: Status = 16;
 
-/// A status, and what is written before it.
-#[derive(Debug, Drop)]
-struct Ending {
-    status: Status,
-    output: Text,
-}
-
-fn ending_with(alloc: Global, status: Status, output: &[u8]) -> Result<Ending, Memory>
-    ensures { IfOk result (λ ending. ending ≡ record { status = status; output = output.now }) }
-{
-    Ok(Ending {
-        status,
-        output: Text::from_bytes(alloc, output)?,
-    })
-}
-
 /// What an answer is told by.
 fn told(alloc: Global, question: &Question, answer: &Answer) -> Result<Ending, Memory>
-    ensures ends { (conf ldif base : List ℕ) (entries : List DirEntry) → Reads conf ldif base entries → IsAnswer entries base question.now.name answer.now → IfOk result (λ ending. Ends question.now conf ldif ending.status ending.output) }
+    ensures ends { (conf ldif : List ℕ) → Tells conf ldif question.now answer.now → IfOk result (λ ending. Ends question.now conf ldif ending.status ending.output) }
     ensures known { IfOk result (λ ending. IsEnding ending.status) }
 {
     match answer {
@@ -58,7 +39,23 @@ fn told(alloc: Global, question: &Question, answer: &Answer) -> Result<Ending, M
     }
 }
 
+/// What the inputs say of a netgroup, once they were read.
+#[tactic(auto, using(crate::proofs::Tools::tells))]
+fn ending_for(alloc: Global, question: &Question, inputs: &Inputs) -> Result<Ending, Memory>
+    ensures ends { (conf ldif : List ℕ) → AreInputs conf ldif inputs.now → IfOk result (λ ending. Ends question.now conf ldif ending.status ending.output) }
+    ensures known { IfOk result (λ ending. IsEnding ending.status) }
+{
+    let answer = look(
+        alloc,
+        inputs.entries.items(),
+        &inputs.config.base,
+        &question.name,
+    )?;
+    told(alloc, question, &answer)
+}
+
 /// What the inputs say of a netgroup, the configuration first.
+#[tactic(auto, using(crate::proofs::Tools::read_ends, crate::proofs::Tools::no_cause))]
 fn answered<S: Source>(
     alloc: Global,
     question: &Question,
@@ -70,26 +67,10 @@ fn answered<S: Source>(
     ensures stops { IfErr result (λ stop. IfSome (S.left conf.old) (λ c. IfSome (S.left ldif.old) (λ l. StopsAt stop c l))) }
     ensures fault { result ≡ Err Stop.ReadFault → Rose (S.faults conf.old) (S.faults conf.new) ⊎ Rose (S.faults ldif.old) (S.faults ldif.new) }
 {
-    let base = read_base(alloc, conf)?;
-    let entries = read_entries(alloc, ldif)?;
-    let answer = look(alloc, entries.items(), &base, &question.name)?;
-    Ok(told(alloc, question, &answer)?)
-}
-
-/// The ending where an input was not taken, unless it could not be read or memory was wanting.
-fn stopped(alloc: Global, stop: Stop) -> Result<Ending, Stop>
-    ensures ends { IfOk result (λ ending. StopEnds stop ending.status ending.output) }
-    ensures known { IfOk result (λ ending. IsEnding ending.status) }
-    ensures stops { IfErr result (λ left. (left ≡ Stop.Memory) ⊎ ((left ≡ Stop.ReadFault) × (stop ≡ Stop.ReadFault))) }
-{
-    match stop {
-        Stop::TooLong => Ok(ending_with(alloc, TOO_LONG, b"too long\n")?),
-        Stop::Refused(output) => Ok(Ending {
-            status: REFUSED,
-            output,
-        }),
-        Stop::ReadFault => Err(Stop::ReadFault),
-        Stop::Memory => Err(Stop::Memory),
+    let inputs = read_inputs(alloc, conf, ldif)?;
+    match ending_for(alloc, question, &inputs) {
+        Ok(ending) => Ok(ending),
+        Err(Memory) => Err(Stop::Memory),
     }
 }
 

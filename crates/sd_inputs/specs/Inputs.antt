@@ -1,5 +1,5 @@
 -- What the texts of a configuration and of entries come to.
-use Rattle.std.specs.Prelude.{◌≡◌, ℕ, ◌<◌, ◌≤◌, ◌++◌, List, [], length, codes, Ok, Err}
+use Rattle.std.specs.Prelude.{◌≡◌, ◌⊎◌, ℕ, ◌<◌, ◌≤◌, ◌++◌, List, [], length, codes, Ok, Err}
 use Rattle.sd_conf.specs.declared.config.Config.{Config}
 use Rattle.sd_conf.specs.declared.ConfFault.{ConfFault}
 use Rattle.sd_conf.specs.declared.ConfFault.TheVariants as conf_faults
@@ -9,8 +9,9 @@ use Rattle.sd_ldif.specs.declared.LdifFault.{LdifFault}
 use Rattle.sd_ldif.specs.declared.LdifFault.TheVariants as ldif_faults
 use Rattle.sd_ldif.specs.Records.{ldif_of}
 use Rattle.sd_wire.specs.Forms.{numbered}
-use Rattle.sd_netgroup.specs.declared.inputs.Stop.{Stop}
-use Rattle.sd_netgroup.specs.declared.inputs.Stop.TheVariants as stops
+use Rattle.sd_inputs.specs.declared.inputs.Inputs.{Inputs}
+use Rattle.sd_inputs.specs.declared.inputs.Stop.{Stop}
+use Rattle.sd_inputs.specs.declared.inputs.Stop.TheVariants as stops
 
 -- the most bytes of a configuration, 1 MiB, and of entries, 64 MiB
 abbrev pub conf_limit : ℕ
@@ -19,17 +20,20 @@ conf_limit = 1048576
 abbrev pub ldif_limit : ℕ
 ldif_limit = 67108864
 
--- a configuration is taken, and has this search base
-pub record IsBase (conf base : List ℕ) : Type 0 where
+-- a configuration is taken
+pub record IsConfig (conf : List ℕ) (config : Config) : Type 0 where
   pub within : length conf ≤ conf_limit
-  pub config : Config
   pub taken : conf_of conf ≡ Ok config
-  pub is : base ≡ config.base
 
 -- entries are taken
 pub record AreEntries (ldif : List ℕ) (entries : List DirEntry) : Type 0 where
   pub within : length ldif ≤ ldif_limit
   pub taken : ldif_of ldif ≡ Ok entries
+
+-- both are taken
+pub record AreInputs (conf ldif : List ℕ) (inputs : Inputs) : Type 0 where
+  pub is_config : IsConfig conf inputs.config
+  pub are_entries : AreEntries ldif inputs.entries
 
 -- what is written where an input is refused: the refusal's name, and a space and its value where it has one
 abbrev pub refused : List ℕ → List ℕ → List ℕ
@@ -111,3 +115,20 @@ StopsReadLdif stops.ReadFault ldif = ⊥
 StopsReadLdif stops.TooLong ldif = ⊥
 StopsReadLdif (stops.Refused output) ldif = IsLdifRefused ldif output
 StopsReadLdif stops.Memory ldif = Unit {0}
+
+-- ---- of both
+
+-- the configuration is too long; or it is taken, and the entries are too long
+abbrev pub AreTooLong : List ℕ → List ℕ → Type 0
+AreTooLong conf ldif = (conf_limit < length conf) ⊎ ((config : Config) × IsConfig conf config × (ldif_limit < length ldif))
+
+-- the configuration is refused; or it is taken, and the entries are refused
+abbrev pub AreRefused : List ℕ → List ℕ → List ℕ → Type 0
+AreRefused conf ldif output = IsConfRefused conf output ⊎ ((config : Config) × IsConfig conf config × IsLdifRefused ldif output)
+
+-- why they were not taken
+abbrev pub StopsAt : Stop → List ℕ → List ℕ → Type 0
+StopsAt stops.ReadFault conf ldif = Unit {0}
+StopsAt stops.TooLong conf ldif = AreTooLong conf ldif
+StopsAt (stops.Refused output) conf ldif = AreRefused conf ldif output
+StopsAt stops.Memory conf ldif = Unit {0}

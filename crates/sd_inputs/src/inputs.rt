@@ -1,10 +1,10 @@
-//! The inputs of the tools: a configuration, and the entries of a directory.
-ghost use Rattle.std.specs.Prelude.{◌≡◌, ◌≤◌, ◌++◌, length, IfOk, IfErr, OnOk, IfSome, Err};
+//! A configuration and the entries of a directory, each read to its end.
+ghost use Rattle.std.specs.Prelude.{◌≡◌, ◌≤◌, ◌⊎◌, ◌++◌, length, IfOk, IfErr, OnOk, IfSome, Err};
 ghost use Rattle.sd_base.specs.Causes.{Rose};
-ghost use Rattle.sd_netgroup.specs.Inputs as inputs;
+ghost use Rattle.sd_inputs.specs.Inputs as inputs;
 
-use sd_base::{Copied, Memory, ReadEnd, Source, Text, read_all};
-use sd_conf::{ConfFault, read_conf};
+use sd_base::{Memory, ReadEnd, Source, Text, read_all};
+use sd_conf::{ConfFault, Config, read_conf};
 use sd_ldap::DirEntries;
 use sd_ldif::{LdifFault, read_ldif};
 use sd_wire::fields::{push_bytes, push_numbered};
@@ -30,7 +30,7 @@ pub enum Stop {
 
 impl From<Memory> for Stop {
     ghost use Rattle.std.specs.Prelude.{◌≡◌};
-    ghost use Rattle.sd_netgroup.specs.declared.inputs.Stop.TheVariants as stops;
+    ghost use Rattle.sd_inputs.specs.declared.inputs.Stop.TheVariants as stops;
 
     ghost from_gives = { λ _ stop. stop ≡ stops.Memory };
 
@@ -121,14 +121,14 @@ fn ldif_refused(alloc: Global, fault: LdifFault) -> Result<Text, Memory>
     refused(alloc, ldif_name(fault), &value)
 }
 
-/// The search base of a configuration.
-fn base_of(alloc: Global, conf: &[u8]) -> Result<Text, Stop>
+/// The configuration that a text has.
+fn config_of(alloc: Global, conf: &[u8]) -> Result<Config, Stop>
     requires { length conf.now ≤ CONF_LIMIT }
-    ensures base { IfOk result (λ base. inputs.IsBase conf.now base) }
+    ensures config { IfOk result (λ config. inputs.IsConfig conf.now config) }
     ensures stop { IfErr result (λ stop. inputs.StopsReadConf stop conf.now) }
 {
     match read_conf(alloc, conf) {
-        Ok(config) => Ok(config.base.copy()?),
+        Ok(config) => Ok(config),
         Err(ConfFault::Memory) => Err(Stop::Memory),
         Err(fault) => Err(Stop::Refused(conf_refused(alloc, &fault)?)),
     }
@@ -147,14 +147,14 @@ fn entries_of(alloc: Global, ldif: &[u8]) -> Result<DirEntries, Stop>
     }
 }
 
-/// Reads a configuration to its end, for its search base.
-pub fn read_base<S: Source>(alloc: Global, conf: &mut S) -> Result<Text, Stop>
-    ensures base { IfOk result (λ base. IfSome (S.left conf.old) (λ text. inputs.IsBase text base)) }
+/// Reads a configuration to its end.
+fn read_config<S: Source>(alloc: Global, conf: &mut S) -> Result<Config, Stop>
+    ensures config { IfOk result (λ config. IfSome (S.left conf.old) (λ text. inputs.IsConfig text config)) }
     ensures stop { IfErr result (λ stop. IfSome (S.left conf.old) (λ text. inputs.StopsConf stop text)) }
     ensures fault { result ≡ Err Stop.ReadFault → Rose (S.faults conf.old) (S.faults conf.new) }
 {
     match read_all(alloc, conf, CONF_LIMIT) {
-        Ok(text) => base_of(alloc, text.as_slice()),
+        Ok(text) => config_of(alloc, text.as_slice()),
         Err(ReadEnd::Failed) => Err(Stop::ReadFault),
         Err(ReadEnd::TooLong) => Err(Stop::TooLong),
         Err(ReadEnd::Memory) => Err(Stop::Memory),
@@ -162,7 +162,7 @@ pub fn read_base<S: Source>(alloc: Global, conf: &mut S) -> Result<Text, Stop>
 }
 
 /// Reads entries to their end (RFC 2849).
-pub fn read_entries<S: Source>(alloc: Global, ldif: &mut S) -> Result<DirEntries, Stop>
+fn read_entries<S: Source>(alloc: Global, ldif: &mut S) -> Result<DirEntries, Stop>
     ensures entries { IfOk result (λ entries. IfSome (S.left ldif.old) (λ text. inputs.AreEntries text entries)) }
     ensures stop { IfErr result (λ stop. IfSome (S.left ldif.old) (λ text. inputs.StopsLdif stop text)) }
     ensures fault { result ≡ Err Stop.ReadFault → Rose (S.faults ldif.old) (S.faults ldif.new) }
@@ -173,4 +173,23 @@ pub fn read_entries<S: Source>(alloc: Global, ldif: &mut S) -> Result<DirEntries
         Err(ReadEnd::TooLong) => Err(Stop::TooLong),
         Err(ReadEnd::Memory) => Err(Stop::Memory),
     }
+}
+
+/// A configuration, and the entries of a directory.
+#[derive(Debug, Drop)]
+pub struct Inputs {
+    pub config: Config,
+    pub entries: DirEntries,
+}
+
+#[tactic(auto, using(crate::proofs::Told::both_read, crate::proofs::Told::conf_stopped, crate::proofs::Told::ldif_stopped))]
+/// Reads both, the configuration first.
+pub fn read_inputs<S: Source>(alloc: Global, conf: &mut S, ldif: &mut S) -> Result<Inputs, Stop>
+    ensures read { IfOk result (λ read. IfSome (S.left conf.old) (λ c. IfSome (S.left ldif.old) (λ l. inputs.AreInputs c l read))) }
+    ensures stops { IfErr result (λ stop. IfSome (S.left conf.old) (λ c. IfSome (S.left ldif.old) (λ l. inputs.StopsAt stop c l))) }
+    ensures fault { result ≡ Err Stop.ReadFault → Rose (S.faults conf.old) (S.faults conf.new) ⊎ Rose (S.faults ldif.old) (S.faults ldif.new) }
+{
+    let config = read_config(alloc, conf)?;
+    let entries = read_entries(alloc, ldif)?;
+    Ok(Inputs { config, entries })
 }
