@@ -6,3 +6,4 @@ pub mod Folds
 pub mod Spoken
 pub mod Stood
 pub mod Halts
+pub mod Ends

@@ -7,3 +7,7 @@ pub mod Speaking
 pub mod Standing
 pub mod Applied
 pub mod Printing
+pub mod Ruling
+pub mod Answering
+pub mod Words
+pub mod Endings

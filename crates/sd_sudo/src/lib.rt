@@ -2,14 +2,19 @@
 //! netgroups of which they speak, and which of them apply in which order.
 #![tactic(auto)]
 
+mod answer;
 mod applied;
 mod asker;
 mod lookups;
 mod nets;
 mod printing;
 mod roles;
+mod rules;
 mod searches;
+mod tool;
+mod words;
 
+pub use answer::{Answer, look};
 pub use applied::rules_applied;
 pub use asker::{asker_of, user_named};
 pub use lookups::Halt;
@@ -17,3 +22,4 @@ pub use nets::{nets_asked, nets_with};
 pub use printing::printed;
 pub use roles::roles_under;
 pub use sd_roles::{Asker, Nets, Role, RoleFault, applies, read_role};
+pub use tool::{NO_USER, sudo_tool};
