@@ -8,6 +8,7 @@ mod outside;
 use host::{Health, SystemHost};
 use outside::SystemOutside;
 use sd_base::{Memory, ReaderSource, WriterSink};
+use sd_clock::OpenGate;
 use sd_ldap_server::TcpNetwork;
 use sd_serve::{NO_MEMORY, program};
 use std::process::ExitCode;
@@ -48,5 +49,6 @@ fn main(rt: HostRuntime) -> ExitCode {
         &mut outside,
         &mut host,
         &mut network,
+        &OpenGate,
     ))
 }

@@ -20,6 +20,10 @@ use Rattle.sd_netgroup.specs.Words.{question_of}
 use Rattle.sd_scenario.specs.Endings as ends
 use Rattle.sd_scenario.specs.Transcript as script
 use Rattle.sd_scenario.specs.declared.endings.TheConstants.{LIMIT, BAD_LINE, JOURNAL_FULL}
+use Rattle.sd_load.specs.Lines.{storm_lines}
+use Rattle.sd_storm.specs.Endings as storms
+use Rattle.sd_sudo.specs.Endings as rules
+use Rattle.sd_sudo.specs.Words.{user_asked}
 use Rattle.sd_tools.specs.Endings as endings
 use Rattle.sd_tools.specs.Options.{requests_of}
 use Rattle.sd_tools.specs.Queries.{query_of, needs_password, first_line}
@@ -98,6 +102,22 @@ pub record Nets {H W : Type 0} (text_at : H → List ℕ → Option (List ℕ)) 
   -- a file could not be read, and nothing was written
   pub read_fault : status ≡ READ_FAULT → Rose (source_faults host) (source_faults host') × (sink' ≡ sink)
 
+-- `sudo`, likewise: the rules that apply to a user are sought in the entries of an LDIF.
+pub record Rules {H W : Type 0} (text_at : H → List ℕ → Option (List ℕ)) (source_faults : H → ℕ) (held : W → Option (List ℕ)) (words : List (List ℕ))
+    (conf ldif : List ℕ) (host host' : H) (sink sink' : W) (status : ℕ) : Type 0 where
+  pub status_is : rules.IsStatus status
+  -- the rules that apply to the user, by the entries of the LDIF read whole, were written
+  pub done : status ≡ DONE → rules.OfInputs (user_asked words) (text_at host conf) (text_at host ldif)
+      (λ u c l. (output : List ℕ) × rules.OfDirectory c l (rules.ArePrinted u output) × Appends (held sink) (held sink') output)
+  -- each other ending comes by its cause, and what it writes was written
+  pub ends : rules.IsEnding status → rules.OfInputs (user_asked words) (text_at host conf) (text_at host ldif)
+      (λ u c l. (output : List ℕ) × rules.Ends u c l status output × Appends (held sink) (held sink') output)
+  -- the sink failed, and a front of the output was written
+  pub front : status ≡ WRITE_FAULT → rules.OfInputs (user_asked words) (text_at host conf) (text_at host ldif)
+      (λ u c l. (end : ℕ) × (output : List ℕ) × rules.Ends u c l end output × AppendsFront (held sink) (held sink') output)
+  -- a file could not be read, and nothing was written
+  pub read_fault : status ≡ READ_FAULT → Rose (source_faults host) (source_faults host') × (sink' ≡ sink)
+
 -- `directory`, by what the host tells of the LDIF at a path: its entries are served at an address.
 pub record Directories {H N W : Type 0} (text_at : H → List ℕ → Option (List ℕ)) (source_faults : H → ℕ) (listened : N → Option (List (List ℕ)))
     (ended : N → Bool) (door_faults : N → ℕ) (held : W → Option (List ℕ)) (ldif address : List ℕ) (host host' : H) (network network' : N)
@@ -116,6 +136,17 @@ pub record Directories {H N W : Type 0} (text_at : H → List ℕ → Option (Li
       × Appends (held sink) (held sink') (dirs.refused fault)
   -- the doors could not be made, or failed, and `door fault` was written
   pub door_fault : status ≡ DOOR_FAULT → Rose (door_faults network) (door_faults network') × Appends (held sink) (held sink') (codes "door fault\n")
+
+-- a load of so many requests, and what is printed of it
+pub record Storms {W : Type 0} (held : W → Option (List ℕ)) (requests : ℕ) (sink sink' : W) (status : ℕ) : Type 0 where
+  pub status_is : storms.IsStatus status
+  -- the four lines of so many requests were written, or a front of them where the sink failed
+  pub done : status ≡ DONE → Appends (held sink) (held sink') (storm_lines requests)
+  pub front : status ≡ WRITE_FAULT → AppendsFront (held sink) (held sink') (storm_lines requests)
+
+-- `storm`, where its word is a number of requests
+abbrev pub Loads : {W : Type 0} → (W → Option (List ℕ)) → Option ℕ → W → W → ℕ → Type 0
+Loads held requests sink sink' status = IfSome requests (λ n. Storms held n sink sink' status)
 
 -- `query`, by the words behind its socket: the daemon is asked one thing, over links of which this is told.
 pub record Asks {S : Type 0} (left : S → Option (List ℕ)) (rest : List (List ℕ)) (source source' : S) (told told' : replies.Told)

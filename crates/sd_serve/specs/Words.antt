@@ -1,6 +1,7 @@
 -- Which words ask for what.
-use Rattle.std.specs.Prelude.{◌≡◌, ◌≢◌, ◌≤◌, ℕ, Bool, true, false, codes, List, [], ◌∷◌, None, if◌then◌else◌}
+use Rattle.std.specs.Prelude.{◌≡◌, ◌≢◌, ◌≤◌, ℕ, Bool, true, false, codes, List, [], ◌∷◌, Option, Some, None, if◌then◌else◌}
 use Rattle.sd_ldap_server.specs.Addresses.{is_address}
+use Rattle.sd_load.specs.Words as loads
 use Rattle.sd_rules.specs.Keys.{same_name}
 use Rattle.sd_tools.specs.Options.{requests_of}
 use Rattle.sd_tools.specs.Queries.{query_of}
@@ -16,11 +17,20 @@ kind_of_word word =
     else if same_name word (codes "--version") then kinds.Version
     else kinds.Unknown
 
+-- a load of so many requests, where a number of them is named
+abbrev pub kind_by_load : Option ℕ → Kind
+kind_by_load (Some requests) = kinds.Storm
+kind_by_load None = kinds.Unknown
+
+-- two words in all
+abbrev pub kind_of_two : List ℕ → List ℕ → Kind
+kind_of_two word second = if same_name word (codes "storm") then kind_by_load (loads.requests_of second) else kinds.Unknown
+
 -- a directory is served where its address has a form
 abbrev pub kind_by_address : List ℕ → Kind
 kind_by_address address = if is_address address then kinds.Directory else kinds.Unknown
 
--- three words in all
+-- three
 abbrev pub kind_of_three : List ℕ → List ℕ → Kind
 kind_of_three word third =
     if same_name word (codes "serve") then kinds.Serve
@@ -32,32 +42,34 @@ abbrev pub kind_of_four : List ℕ → Kind
 kind_of_four word =
     if same_name word (codes "serve") then kinds.Serve
     else if same_name word (codes "netgroup") then kinds.Netgroup
+    else if same_name word (codes "sudo") then kinds.Sudo
     else kinds.Unknown
 
 -- seven
 abbrev pub kind_of_seven : List ℕ → Kind
 kind_of_seven word = if same_name word (codes "innetgr") then kinds.Netgroup else kinds.Unknown
 
--- by the words behind the second
-abbrev pub kind_by_rest : List ℕ → List (List ℕ) → Kind
-kind_by_rest word (third ∷ []) = kind_of_three word third
-kind_by_rest word (third ∷ fourth ∷ []) = kind_of_four word
-kind_by_rest word (third ∷ fourth ∷ fifth ∷ sixth ∷ seventh ∷ []) = kind_of_seven word
-kind_by_rest word _ = kinds.Unknown
+-- by the second, and the words behind it
+abbrev pub kind_by_rest : List ℕ → List ℕ → List (List ℕ) → Kind
+kind_by_rest word second [] = kind_of_two word second
+kind_by_rest word second (third ∷ []) = kind_of_three word third
+kind_by_rest word second (third ∷ fourth ∷ []) = kind_of_four word
+kind_by_rest word second (third ∷ fourth ∷ fifth ∷ sixth ∷ seventh ∷ []) = kind_of_seven word
+kind_by_rest word second _ = kinds.Unknown
 
 -- a word with a path behind it, and the words behind that
-abbrev pub kind_of_tool : List ℕ → List (List ℕ) → Kind
-kind_of_tool tool rest =
+abbrev pub kind_of_tool : List ℕ → List ℕ → List (List ℕ) → Kind
+kind_of_tool tool operand rest =
     if same_name tool (codes "query") then kinds.Query
     else if same_name tool (codes "cache") then kinds.Cache
-    else kind_by_rest tool rest
+    else kind_by_rest tool operand rest
 
 abbrev pub kind_of : List (List ℕ) → Kind
 kind_of [] = kinds.Unknown
 kind_of (word ∷ []) = kind_of_word word
-kind_of (tool ∷ operand ∷ rest) = kind_of_tool tool rest
+kind_of (tool ∷ operand ∷ rest) = kind_of_tool tool operand rest
 
--- the word behind the first: the path of a socket, of a configuration or of an LDIF
+-- the word behind the first: the path of a socket, of a configuration or of an LDIF, or how many requests a load has
 abbrev pub operand_of : List (List ℕ) → List ℕ
 operand_of (tool ∷ operand ∷ rest) = operand
 operand_of _ = []
@@ -96,6 +108,7 @@ is_stop _ = false
 abbrev pub NeedsNoHost : Kind → Type 0
 NeedsNoHost kinds.Serve = ⊥
 NeedsNoHost kinds.Netgroup = ⊥
+NeedsNoHost kinds.Sudo = ⊥
 NeedsNoHost kinds.Directory = ⊥
 NeedsNoHost _ = Unit {0}
 
@@ -106,6 +119,6 @@ ReadsInput kinds.Idmap = Unit {0}
 ReadsInput kinds.Query = Unit {0}
 ReadsInput _ = ⊥
 
--- the statuses of the program: 0, and 2 to 16
+-- the statuses of the program: 0, and 2 to 17
 abbrev pub IsStatus : ℕ → Type 0
-IsStatus status = (status ≢ 1) × (status ≤ 16)
+IsStatus status = (status ≢ 1) × (status ≤ 17)

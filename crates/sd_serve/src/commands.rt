@@ -3,17 +3,21 @@ ghost use Rattle.std.specs.Prelude.{◌≡◌, ◌≢◌, ◌⊎◌, map, string
 ghost use Rattle.std.specs.Io.KnownBytes.{Appends};
 ghost use Rattle.sd_base.specs.Causes.{Rose};
 ghost use Rattle.sd_serve.specs.Outsides.{IsDialledTwice, LinksFirst, LinksOften};
-ghost use Rattle.sd_serve.specs.Promises.{Asks, Directories, IsWithin, Nets, Numbers, Plays, Prints, Serves, Voids};
+ghost use Rattle.sd_serve.specs.Promises.{Asks, Directories, IsWithin, Loads, Nets, Numbers, Plays, Prints, Rules, Serves, Voids};
 ghost use Rattle.sd_serve.specs.Words.{behind_operand, first_of, has_second, HasNoForm, IsStatus, is_stop, kind_of, NeedsNoHost, operand_of, ReadsInput};
+ghost use Rattle.sd_load.specs.Words.{requests_of};
 ghost use Rattle.sd_tools.specs.Endings as endings;
 
 use crate::directories::directory_at;
 use crate::netgroups::netgroup_at;
 use crate::outside::Outside;
+use crate::storms::storm_by;
+use crate::sudo::sudo_at;
 use crate::texts::{HELP, VERSION};
 use crate::tools::{cache_at, query_at};
 use crate::words::{Kind, first_of, kind_of, operand_of, second_of};
 use sd_base::{Sink, Source};
+use sd_clock::Gate;
 use sd_daemon::{Host, serve};
 use sd_dial::Dialer;
 use sd_doors::Doors;
@@ -67,7 +71,7 @@ fn number<S: Source, W: Sink>(
 
 /// Does what the words behind the program's name ask for, over its input, its output and what stands outside of it, and gives the
 /// status that the program ends with. The words are tested before anything is read; `query` and `cache` connect before they read.
-pub fn program<R, S, W, O, H, N>(
+pub fn program<R, S, W, O, H, N, G>(
     rt: &R,
     alloc: Global,
     words: &[String],
@@ -76,6 +80,7 @@ pub fn program<R, S, W, O, H, N>(
     outside: &mut O,
     host: &mut H,
     network: &mut N,
+    gate: &G,
 ) -> Status
 where
     R: Threads + Wait + Sync,
@@ -89,6 +94,7 @@ where
     N: Network,
     <N::Door as Doors>::In: Drop,
     <N::Door as Doors>::Out: Drop,
+    G: Gate + Sync,
     ensures status { IsStatus result }
 
     // What each word does, with the cause of each status that it alone has.
@@ -96,9 +102,12 @@ where
     ensures idmap { kind_of (map string_bytes words.now) ≡ Kind.Idmap → Numbers S.left S.faults W.held W.faults source.old source.new sink.old sink.new result }
     ensures netgroup { kind_of (map string_bytes words.now) ≡ Kind.Netgroup → Nets H.text_at H.source_faults W.held (map string_bytes words.now)
         (operand_of (map string_bytes words.now)) (first_of (behind_operand (map string_bytes words.now))) host.old host.new sink.old sink.new result }
+    ensures sudo { kind_of (map string_bytes words.now) ≡ Kind.Sudo → Rules H.text_at H.source_faults W.held (map string_bytes words.now)
+        (operand_of (map string_bytes words.now)) (first_of (behind_operand (map string_bytes words.now))) host.old host.new sink.old sink.new result }
     ensures directory { kind_of (map string_bytes words.now) ≡ Kind.Directory → Directories H.text_at H.source_faults N.listened N.ended N.door_faults W.held
         (operand_of (map string_bytes words.now)) (first_of (behind_operand (map string_bytes words.now))) host.old host.new network.old network.new
         sink.old sink.new result }
+    ensures storm { kind_of (map string_bytes words.now) ≡ Kind.Storm → Loads W.held (requests_of (operand_of (map string_bytes words.now))) sink.old sink.new result }
     ensures help { kind_of (map string_bytes words.now) ≡ Kind.Help → Prints W.held HELP.now source.old source.new sink.old sink.new result }
     ensures version { kind_of (map string_bytes words.now) ≡ Kind.Version → Prints W.held VERSION.now source.old source.new sink.old sink.new result }
     ensures query { kind_of (map string_bytes words.now) ≡ Kind.Query → result ≢ USAGE → Asks S.left (behind_operand (map string_bytes words.now))
@@ -151,7 +160,9 @@ where
         Kind::Scenario => play(alloc, words, source, sink),
         Kind::Idmap => number(alloc, words, source, sink),
         Kind::Netgroup => netgroup_at(alloc, words, path, first_of(rest), sink, host),
+        Kind::Sudo => sudo_at(alloc, words, path, first_of(rest), sink, host),
         Kind::Directory => directory_at(rt, alloc, path, first_of(rest), sink, host, network),
+        Kind::Storm => storm_by(rt, alloc, words, sink, gate),
         Kind::Help => print(HELP, source, sink),
         Kind::Version => print(VERSION, source, sink),
         Kind::Query => query_at(alloc, path, rest, source, sink, outside),

@@ -6,6 +6,8 @@ pub mod directories;
 mod files;
 pub mod netgroups;
 pub mod outside;
+pub mod storms;
+pub mod sudo;
 pub mod texts;
 pub mod tools;
 pub mod words;

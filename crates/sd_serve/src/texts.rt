@@ -6,7 +6,9 @@ scenario                    play the scenario that standard input gives
 idmap                       number the SIDs that standard input gives
 netgroup CONF LDIF NAME     the triples of a netgroup in the entries of an LDIF
 innetgr CONF LDIF NAME HOST USER DOMAIN     whether these are in it; `*` asks nothing of a field
+sudo CONF LDIF USER         the sudo rules of a user by the entries of an LDIF
 directory LDIF HOST:PORT    serve the entries of an LDIF over LDAP
+storm N                     load sessions in memory with N requests, 1 to 100000
 serve CONF SOCKET [STORE]   serve clients on a Unix socket, by a configuration; STORE keeps over a restart what is known
 query SOCKET user NAME      look a user up
 query SOCKET uid N          look a user up by number

@@ -3,6 +3,7 @@ ghost use Rattle.std.specs.Prelude.{◌≡◌, is_some, map, string_bytes};
 ghost use Rattle.sd_serve.specs.Words as forms;
 
 use sd_ldap_server::is_address;
+use sd_load::requests_of;
 
 /// What words ask for.
 #[derive(Clone, Copy, Debug, PartialEq, Eq)]
@@ -13,7 +14,9 @@ pub enum Kind {
     Idmap,
     /// `netgroup` and `innetgr`.
     Netgroup,
+    Sudo,
     Directory,
+    Storm,
     Query,
     Cache,
     Serve,
@@ -32,6 +35,19 @@ fn kind_of_word(word: &[u8]) -> Kind
         Kind::Help
     } else if word == b"--version".as_slice() {
         Kind::Version
+    } else {
+        Kind::Unknown
+    }
+}
+
+fn kind_of_two(word: &[u8], second: &[u8]) -> Kind
+    ensures { result ≡ forms.kind_of_two word.now second.now }
+{
+    if word == b"storm".as_slice() {
+        match requests_of(second) {
+            Some(_) => Kind::Storm,
+            None => Kind::Unknown,
+        }
     } else {
         Kind::Unknown
     }
@@ -66,6 +82,8 @@ fn kind_of_four(word: &[u8]) -> Kind
         Kind::Serve
     } else if word == b"netgroup".as_slice() {
         Kind::Netgroup
+    } else if word == b"sudo".as_slice() {
+        Kind::Sudo
     } else {
         Kind::Unknown
     }
@@ -82,10 +100,11 @@ fn kind_of_seven(word: &[u8]) -> Kind
 }
 
 /// What a word asks for that is no tool's, by how many words there are.
-fn kind_by_rest(word: &[u8], rest: &[String]) -> Kind
-    ensures { result ≡ forms.kind_by_rest word.now (map string_bytes rest.now) }
+fn kind_by_rest(word: &[u8], second: &[u8], rest: &[String]) -> Kind
+    ensures { result ≡ forms.kind_by_rest word.now second.now (map string_bytes rest.now) }
 {
     match rest {
+        [] => kind_of_two(word, second),
         [third] => kind_of_three(word, third.as_bytes()),
         [_third, _fourth] => kind_of_four(word),
         [_third, _fourth, _fifth, _sixth, _seventh] => kind_of_seven(word),
@@ -93,15 +112,15 @@ fn kind_by_rest(word: &[u8], rest: &[String]) -> Kind
     }
 }
 
-fn kind_of_tool(tool: &[u8], rest: &[String]) -> Kind
-    ensures { result ≡ forms.kind_of_tool tool.now (map string_bytes rest.now) }
+fn kind_of_tool(tool: &[u8], operand: &[u8], rest: &[String]) -> Kind
+    ensures { result ≡ forms.kind_of_tool tool.now operand.now (map string_bytes rest.now) }
 {
     if tool == b"query".as_slice() {
         Kind::Query
     } else if tool == b"cache".as_slice() {
         Kind::Cache
     } else {
-        kind_by_rest(tool, rest)
+        kind_by_rest(tool, operand, rest)
     }
 }
 
@@ -112,7 +131,7 @@ pub fn kind_of(words: &[String]) -> Kind
     match words {
         [] => Kind::Unknown,
         [word] => kind_of_word(word.as_bytes()),
-        [tool, _operand, rest @ ..] => kind_of_tool(tool.as_bytes(), rest),
+        [tool, operand, rest @ ..] => kind_of_tool(tool.as_bytes(), operand.as_bytes(), rest),
     }
 }
 
