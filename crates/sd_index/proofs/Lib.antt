@@ -10,4 +10,5 @@ mod RunningLaws
 mod AnswerLaws
 mod OpenLaws
 mod AskLaws
+mod SignalLaws
 pub mod TableLaws

@@ -14,6 +14,7 @@ use Rattle.sd_index.specs.Entries.{falls, numbers_fall}
 use Rattle.sd_index.specs.Outages.{outage_after, HoldsOutage}
 use Rattle.sd_index.specs.Places.{place_of, listed, reserved, gives_back_in}
 use Rattle.sd_index.specs.Places as placed
+use Rattle.sd_index.specs.Signals.{signals, signals_after}
 use Rattle.sd_index.specs.Voids.{HoldsVoids, no_bounds}
 use Rattle.sd_index.specs.Table.{Table, Indexes, full_in}
 use Rattle.sd_index.proofs.OutageLaws.{holds_outage_after, holds_no_outage}
@@ -30,9 +31,9 @@ bounded_none m = omega arith
 
 pub indexes_after : (past : List Entry) (e : Entry) (t u : Table) → Indexes past t → numbers_fall e.number past ≡ true
     → HoldsNewest (e ∷ past) u.answers → HoldsVoids (e ∷ past) u.bounds → u.outage ≡ outage_after t.outage e
-    → u.places ≡ filter (λ p. not (placed.gives_back e.event e.reply p)) t.places ++ listed (place_of e)
+    → u.places ≡ filter (λ p. not (placed.gives_back e.event e.reply p)) t.places ++ listed (place_of e) → u.signals ≡ signals_after t.signals e
     → u.texts ≡ min (t.texts + min (bytes_of_event e.event) (2 ^ 64 - 1)) (2 ^ 64 - 1) → Indexes (e ∷ past) u
-indexes_after past e t u is falling newest bounds outage places texts = record {
+indexes_after past e t u is falling newest bounds outage places told texts = record {
   numbers = falling;
   answers = newest;
   bounds = bounds;
@@ -41,6 +42,7 @@ indexes_after past e t u is falling newest bounds outage places texts = record {
       places
       ∙ ap (λ (ps : List Place). filter (λ p. not (placed.gives_back e.event e.reply p)) ps ++ listed (place_of e)) is.places
       ∙ sym (reserved_after e past falling);
+  signals = told ∙ ap (λ (es : List Entry). signals_after es e) is.signals;
   texts =
       texts
       ∙ ap (λ (n : ℕ). min (n + min (bytes_of_event e.event) (2 ^ 64 - 1)) (2 ^ 64 - 1)) is.texts
@@ -48,13 +50,14 @@ indexes_after past e t u is falling newest bounds outage places texts = record {
 }
 
 -- a journal of no entries
-pub indexes_none : Indexes [] (record { answers = []; bounds = no_bounds; outage = None; places = []; texts = 0 })
+pub indexes_none : Indexes [] (record { answers = []; bounds = no_bounds; outage = None; places = []; signals = []; texts = 0 })
 indexes_none = record {
   numbers = refl;
   answers = record { each = λ k. refl };
   bounds = holds_no_voids;
   outage = holds_no_outage;
   places = refl;
+  signals = refl;
   texts = bounded_none (2 ^ 64 - 1);
 }
 

@@ -4,5 +4,6 @@ pub mod Bounds
 pub mod Voids
 pub mod Outages
 pub mod Places
+pub mod Signals
 pub mod Asked
 pub mod Table

@@ -18,14 +18,17 @@ use Rattle.sd_index.specs.Entries.{falls}
 use Rattle.sd_index.specs.Filed.{is_filed}
 use Rattle.sd_index.specs.Outages.{standing_at, HoldsOutage}
 use Rattle.sd_index.specs.Places.{place_of, reserved, running_in, gives_back_in}
+use Rattle.sd_index.specs.Signals.{tells_of_servers, signals}
 use Rattle.sd_index.specs.Voids.{HoldsVoids}
 
--- the newest answers by keys, the last invalidations, the outage that nothing has ended, the places reserved, the bytes of text
+-- the newest answers by keys, the last invalidations, the outage that nothing has ended, the places reserved, the entries that tell
+-- of servers (the newest first), the bytes of text
 pub record Table : Type 0 where
   pub answers : List (Key × Newest)
   pub bounds : Bounds
   pub outage : Option Outage
   pub places : List Place
+  pub signals : List Entry
   pub texts : ℕ
 
 -- Each of them says what the journal says. A count of bytes stands still at the greatest u64.
@@ -35,6 +38,7 @@ pub record Indexes (past : List Entry) (t : Table) : Type 0 where
   pub bounds : HoldsVoids past t.bounds
   pub outage : HoldsOutage past t.outage
   pub places : t.places ≡ reserved past
+  pub signals : t.signals ≡ signals past
   pub texts : t.texts ≡ min (text_bytes past) (2 ^ 64 - 1)
 
 -- the reply to a question
@@ -46,7 +50,7 @@ reply_in t s number moment k =
 
 -- an entry for which nothing is kept takes no memory
 abbrev pub takes_none : Entry → Bool
-takes_none e = not (is_filed e.event) && is_none (place_of e)
+takes_none e = not (is_filed e.event) && (not (tells_of_servers e) && is_none (place_of e))
 
 -- there is no room for an event: the entries kept, the number of the next one, and how many entries a journal may have are told
 abbrev pub full_in : Table → ℕ → ℕ → ℕ → Event → Bool

@@ -1,10 +1,11 @@
 // What a question and the test for room ask of a journal, kept beside its list.
-ghost use Rattle.std.specs.Prelude.{◌≡◌, ◌+◌, ◌-◌, ◌*◌, ◌^◌, [], ◌∷◌, true, false, min, nat_lt, length, reverse, List, IfOk, IsOk, OnOk, OnErr};
+ghost use Rattle.std.specs.Prelude.{◌≡◌, ◌+◌, ◌-◌, ◌*◌, ◌^◌, ◌<◌, [], ◌∷◌, true, false, min, nat_lt, length, reverse, List, IfOk, IsOk, OnOk, OnErr};
 ghost use Rattle.std.specs.Option.{option_copied, option_map};
 ghost use Rattle.sd_rules.specs.declared.replies.Entry.{Entry};
 ghost use Rattle.sd_rules.specs.Answers as answers;
 ghost use Rattle.sd_rules.specs.Past as journal;
 ghost use Rattle.sd_rules.specs.Requests as requests;
+ghost use Rattle.sd_rules.specs.Servers as picks;
 ghost use Rattle.sd_rules.specs.Steps as steps;
 ghost use Rattle.sd_rules.specs.Steps.{Daemon};
 ghost use Rattle.sd_rules.specs.TextBytes as bytes;
@@ -22,10 +23,12 @@ use crate::outages::{Outage, outage_after, standing_at};
 use crate::places::{
     Place, frees, has_attempt, has_request, make_room, place_of, running, settle, waits,
 };
+use crate::signals;
 use crate::texts::of_event;
 use crate::voids::Voids;
 use sd_base::Memory;
 use sd_cache::{Cache, Newest, Primed};
+use sd_journal::servers;
 use sd_rules::{Entry, Event, Key, Reply, Settings};
 use std::alloc::Global;
 use std::marker::Model;
@@ -41,15 +44,18 @@ pub struct Index {
     outage: Option<Outage>,
     /// The oldest first.
     places: Vec<Place>,
+    /// The entries that tell of servers, the oldest first.
+    signals: Vec<Entry>,
     text_bytes: u64,
 }
 
 impl Model for Index {
+    ghost use Rattle.std.specs.Prelude.{reverse};
     ghost use Rattle.sd_index.specs.Table.{Table};
 
     ghost Value = { Table };
 
-    ghost view = { λ i. record { answers = i.cache; bounds = i.voids; outage = i.outage; places = i.places.items; texts = i.text_bytes } };
+    ghost view = { λ i. record { answers = i.cache; bounds = i.voids; outage = i.outage; places = i.places.items; signals = reverse i.signals.items; texts = i.text_bytes } };
 }
 
 /// The number below which what is kept of an answer is voided.
@@ -90,6 +96,7 @@ impl Index {
             voids: Voids::new(alloc, hasher),
             outage: None,
             places: Vec::new(alloc),
+            signals: Vec::new(alloc),
             text_bytes: 0,
         }
     }
@@ -105,8 +112,10 @@ impl Index {
     {
         let place = place_of(entry)?;
         make_room(&mut self.places, &place)?;
+        signals::make_room(&mut self.signals, entry)?;
         file(&mut self.cache, &mut self.voids, before, entry)?;
         settle(&mut self.places, &entry.event, entry.reply, place);
+        signals::note(&mut self.signals, entry);
         self.outage = outage_after(self.outage, entry);
         self.text_bytes = self.text_bytes.saturating_add(of_event(&entry.event));
         Ok(())
@@ -185,6 +194,14 @@ impl Index {
         ensures { (past : List Entry) → Indexes past self.now → result ≡ requests.waits_for past ticket }
     {
         waits(self.places.as_slice(), ticket)
+    }
+
+    /// The server for a request or an attempt at a moment, counted from 0, primaries first.
+    pub fn picked_server(&self, settings: &Settings, request: u64, moment: u64) -> Option<u32>
+        requires { settings.now.primaries + settings.now.backups < 2 ^ 32 }
+        ensures { (past : List Entry) → Indexes past self.now → result ≡ picks.picked_server settings.now past request moment }
+    {
+        servers::picked_server(settings, self.signals.as_slice(), request, moment)
     }
 
     fn count(&self) -> usize

@@ -7,6 +7,7 @@ pub mod entries;
 pub mod index;
 pub mod outages;
 pub mod places;
+pub mod signals;
 pub mod texts;
 pub mod voids;
 

@@ -1,7 +1,7 @@
 //! One journal, asked through its index: what the definitions say of it.
 use crate::Index;
 use crate::entries::{event_at, key_of, numbers_fall};
-use sd_base::{Items, Memory, Text};
+use sd_base::{Items, Memory, Text, Why};
 use sd_cache::Primed;
 use sd_rules::{
     AccessMode, Answered, Entry, Event, Key, Record, Reply, Settings, SimpleLists, User, What,
@@ -147,5 +147,51 @@ fn finds_entries(rt: HostRuntime) -> Result<(), Fail> {
     assert!(rt; key_of(entries, 3) == Some(&Key::Uid(7)));
     assert!(rt; event_at(entries, 5).is_none());
     assert!(rt; !numbers_fall(4, entries));
+    Ok(())
+}
+
+// The one server falls under an open request, and then the directory is said to be reached.
+fn fallen(alloc: Global) -> Result<Vec<Entry>, Memory> {
+    let mut entries = Vec::new(alloc);
+    let asked = Event::Ask(Key::User(text(alloc, b"alice")?));
+    entries.push(entry(1, asked, Reply::Lead(1)))?;
+    entries.push(entry(2, Event::Pick(1), Reply::Server(0)))?;
+    entries.push(entry(3, Event::Fall(1, 0, Why::Link), Reply::Noted))?;
+    entries.push(entry(4, Event::Online, Reply::Done))?;
+    Ok(entries)
+}
+
+// The server that is picked at a moment.
+fn picked(
+    rt: &impl Abort,
+    alloc: Global,
+    entries: &[Entry],
+    request: u64,
+    moment: u64,
+) -> Result<Option<u32>, Memory> {
+    let settings = settings(alloc)?;
+    let one_server = settings.primaries == 1 && settings.backups == 0;
+    assert!(rt; one_server);
+    let index = index_of(rt, alloc, entries)?;
+    Ok(index.picked_server(&settings, request, moment))
+}
+
+// For 30 seconds, or until the directory is said to be reached; under its own request for good.
+#[test]
+fn picks_no_server_that_fell(rt: HostRuntime) -> Result<(), Fail> {
+    let alloc = rt.alloc();
+    let entries = fallen(alloc)?;
+    let entries = entries.as_slice();
+    assert!(rt; entries.len() == 4);
+    let before = picked(&rt, alloc, &entries[..2], 1, 0)?;
+    assert!(rt; before == Some(0));
+    let soon = picked(&rt, alloc, &entries[..3], 9, 29)?;
+    assert!(rt; soon.is_none());
+    let later = picked(&rt, alloc, &entries[..3], 9, 30)?;
+    assert!(rt; later == Some(0));
+    let own = picked(&rt, alloc, entries, 1, 30)?;
+    assert!(rt; own.is_none());
+    let reached = picked(&rt, alloc, entries, 9, 1)?;
+    assert!(rt; reached == Some(0));
     Ok(())
 }
