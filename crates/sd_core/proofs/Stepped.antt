@@ -15,6 +15,7 @@ use Rattle.sd_rules.specs.Steps.{Daemon, next_number, moment_of, reply_to, reply
 use Rattle.sd_rules.specs.TextBytes.{text_bytes, bytes_of_event}
 use Rattle.sd_index.specs.Filed.{is_filed}
 use Rattle.sd_index.specs.Places.{place_by, ticket_of}
+use Rattle.sd_index.specs.Signals.{is_signal}
 use Rattle.sd_index.specs.Table.{takes_none}
 use Rattle.sd_past.specs.Closing.{closes_place}
 use Rattle.sd_core.specs.Numbered.{gives_nothing, is_access}
@@ -306,7 +307,7 @@ no_ticket number replies.Left h = refl
 no_ticket number _ h = absurd (false_is_not_true h)
 
 keeps_nothing : (past : List Entry) (number : ℕ) (event : Event) (reply : Reply) → closes_place past event ≡ true → gives_nothing reply ≡ true →
-    (not (is_filed event) && is_none (place_by number event reply)) ≡ true
+    (not (is_filed event) && (not (is_signal event reply) && is_none (place_by number event reply))) ≡ true
 keeps_nothing past number (events.Abandon n) reply h nothing = no_ticket number reply nothing
 keeps_nothing past number (events.Leave n) reply h nothing = no_ticket number reply nothing
 keeps_nothing past number _ reply h nothing = absurd (false_is_not_true h)

@@ -13,7 +13,7 @@ use sd_journal::answers::is_found;
 use sd_journal::logins::{Login, cached_login, usable_hash, user_of, verdict_of, verdict_of_try};
 use sd_journal::past::{Standing, key_of, voids};
 use sd_journal::requests::outcome_of;
-use sd_journal::servers::{picked_server, was_picked};
+use sd_journal::servers::was_picked;
 use sd_past::Past;
 use sd_rules::{Answered, Entry, Event, Key, Outcome, Reply, Settings};
 use std::alloc::Global;
@@ -207,7 +207,7 @@ fn reply_under_number<P: Past>(
 {
     match event {
         Event::Pick(n) if is_open(past, *n) => {
-            reply_by_pick(picked_server(settings, past.list(), *n, t))
+            reply_by_pick(past.picked_server(settings, *n, t))
         }
         Event::Fall(n, server, _) if is_open(past, *n) => {
             if was_picked(past.list(), *n, *server) {
@@ -221,12 +221,7 @@ fn reply_under_number<P: Past>(
         }
         Event::Refuse(n, _) if past.is_open_request(*n) => Reply::Closed,
         Event::Outage(n) if is_open(past, *n) => {
-            reply_to_outage(
-                past,
-                number,
-                *n,
-                picked_server(settings, past.list(), *n, t),
-            )
+            reply_to_outage(past, number, *n, past.picked_server(settings, *n, t))
         }
         Event::Abandon(n) if is_open(past, *n) => Reply::Closed,
         Event::LoginOnline(n, _) if past.is_open_attempt(*n) => Reply::Closed,

@@ -167,6 +167,10 @@ impl Past for IndexedPast {
         self.index.reply_to_ask(settings, number, moment, key)
     }
 
+    fn picked_server(&self, settings: &Settings, request: u64, moment: u64) -> Option<u32> {
+        self.index.picked_server(settings, request, moment)
+    }
+
     fn rows(&self, alloc: Global, next: u64, floor: u64) -> Result<Rows, Memory> {
         let whole = Whole {
             entries: self.entries.as_slice(),

@@ -11,7 +11,7 @@ use crate::room::{copied, make_room, with_room};
 use sd_base::Memory;
 use sd_journal::past::{Standing, newest, outage_at};
 use sd_journal::requests::{is_open, is_open_attempt, is_open_request, reserved_places, waits_for};
-use sd_journal::{answers, past};
+use sd_journal::{answers, past, servers};
 use sd_keeping::rows_of;
 use sd_needs::{forgotten, needed};
 use sd_rules::{Entry, Event, Journal, Key, Reply, Rows, Settings};
@@ -119,6 +119,10 @@ impl Past for ListedPast {
 
     fn reply_to_ask(&self, settings: &Settings, number: u64, moment: u64, key: &Key) -> Reply {
         answers::reply_to_ask(settings, self.entries.as_slice(), number, moment, key)
+    }
+
+    fn picked_server(&self, settings: &Settings, request: u64, moment: u64) -> Option<u32> {
+        servers::picked_server(settings, self.entries.as_slice(), request, moment)
     }
 
     fn rows(&self, alloc: Global, next: u64, floor: u64) -> Result<Rows, Memory> {

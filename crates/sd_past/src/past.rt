@@ -6,6 +6,7 @@ ghost use Rattle.sd_rules.specs.Answers as answers;
 ghost use Rattle.sd_rules.specs.Needed as needed;
 ghost use Rattle.sd_rules.specs.Past as past;
 ghost use Rattle.sd_rules.specs.Requests as requests;
+ghost use Rattle.sd_rules.specs.Servers as servers;
 ghost use Rattle.sd_rules.specs.Steps as steps;
 ghost use Rattle.sd_journal.specs.Seen as seen;
 ghost use Rattle.sd_keeping.specs.Counts as counts;
@@ -60,6 +61,11 @@ pub trait Past: Drop {
     /// The reply to a question at a moment; `number` is that of the new entry.
     fn reply_to_ask(&self, settings: &Settings, number: u64, moment: u64, key: &Key) -> Reply
         ensures { result ≡ answers.reply_to_ask settings.now (entries self.now) number moment key.now };
+
+    /// The server for a request or an attempt at a moment, counted from 0, primaries first.
+    fn picked_server(&self, settings: &Settings, request: u64, moment: u64) -> Option<u32>
+        requires { settings.now.primaries + settings.now.backups < 2 ^ 32 }
+        ensures { result ≡ servers.picked_server settings.now (entries self.now) request moment };
 
     /// The rows that are kept of the entries over a restart. The next entry has at least the number `next` and a moment, in seconds, of
     /// at least `floor`.
