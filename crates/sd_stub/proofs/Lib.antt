@@ -1,5 +1,9 @@
 mod Names
 mod Places
+mod Covering
+mod Hashing
+mod Indexing
+mod Near
 mod Replies
 mod Sizes
 mod Hearing

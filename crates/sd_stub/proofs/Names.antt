@@ -18,13 +18,13 @@ use Rattle.sd_stub.specs.Naming.{lower, lower_pair, lower_dn, parts_of, IsNameOf
 
 -- two texts, two pairs and two lists of pairs
 
-abbrev texts_equal : List ℕ → List ℕ → Bool
+abbrev pub texts_equal : List ℕ → List ℕ → Bool
 texts_equal = pointwise eqb
 
-abbrev parts_equal : Part → Part → Bool
+abbrev pub parts_equal : Part → Part → Bool
 parts_equal p q = texts_equal p.name q.name && texts_equal p.value q.value
 
-abbrev levels_equal : List (List Part) → List (List Part) → Bool
+abbrev pub levels_equal : List (List Part) → List (List Part) → Bool
 levels_equal = pointwise (pointwise parts_equal)
 
 -- names that are known are equal where their parts are
@@ -48,7 +48,7 @@ eqb_turned a b =
       | inr differ ↦ ne_eqb a b differ ∙ sym (ne_eqb b a (λ e. differ (sym e)))
     ]
 
-texts_same : (a b : List ℕ) → texts_equal (lower a) (lower b) ≡ same_text b a
+pub texts_same : (a b : List ℕ) → texts_equal (lower a) (lower b) ≡ same_text b a
 texts_same a b = mapped to_ascii_lowercase eqb eq_ignore_ascii_case (λ x y. eqb_turned (to_ascii_lowercase x) (to_ascii_lowercase y)) a b
 
 pairs_same : (p q : Pair) → parts_equal (lower_pair p) (lower_pair q) ≡ same_pair q p
@@ -57,7 +57,7 @@ pairs_same p q = ap (λ (t : Bool). t && texts_equal (lower p.value) (lower q.va
 rdns_same : (a b : List Pair) → pointwise parts_equal (map lower_pair a) (map lower_pair b) ≡ same_rdn b a
 rdns_same a b = mapped lower_pair parts_equal same_pair pairs_same a b
 
-dns_same : (a b : List (List Pair)) → levels_equal (lower_dn a) (lower_dn b) ≡ same_dn b a
+pub dns_same : (a b : List (List Pair)) → levels_equal (lower_dn a) (lower_dn b) ≡ same_dn b a
 dns_same a b = mapped (λ (rdn : List Pair). map lower_pair rdn) (pointwise parts_equal) same_rdn rdns_same a b
 
 -- what is equal here is one thing
@@ -82,7 +82,7 @@ parts_decide p q = (
         let two : texts_equal p.value p.value ≡ true = (bytes_decides p.value p.value).1 refl in
         rw one two
 
-levels_decide : (a b : List (List Part)) → levels_equal a b ≡ true → a ≡ b
+pub levels_decide : (a b : List (List Part)) → levels_equal a b ≡ true → a ≡ b
 levels_decide a b h = (pointwise_decides (pointwise_decides parts_decide) a b).0 h
 
 -- ---- a name against those of entries that are there

@@ -1,5 +1,6 @@
 -- Replies, one message after another.
-use Rattle.std.proofs.Common.{zero, suc, ◌+◌, ◌-◌, ◌<◌, drop, get_or, Option}
+use Rattle.std.proofs.Common.{zero, suc, ◌+◌, ◌-◌, ◌<◌, drop, get_or, Option, Some, None}
+use Rattle.std.specs.Prelude.{slice_get}
 use Rattle.std.specs.List.{list_any}
 use Rattle.std.proofs.lemmas.List.{drop_more}
 use Rattle.sd_dn.specs.declared.Pair.{Pair}
@@ -12,7 +13,8 @@ use Rattle.sd_ldap.specs.declared.entry.DirEntry.{DirEntry}
 use Rattle.sd_ldap.specs.Values.{SearchValue, MessageValue, entry, done}
 use Rattle.sd_ldap.specs.Spelling.{message_bytes}
 use Rattle.sd_match.specs.Answering.{told, reply, sent, is_past_limit, limited, search_code, is_found, found, found_replies, is_at_or_under}
-use Rattle.sd_stub.specs.Replying.{entry_reply, entries_bytes, done_bytes, alone_bytes, next_bytes, next_left, supported_bytes, search_bytes}
+use Rattle.sd_stub.specs.Covers.{AreEnough, picked, with_some}
+use Rattle.sd_stub.specs.Replying.{bytes_at, left_at, entry_reply, entries_bytes, done_bytes, alone_bytes, next_bytes, next_left, supported_bytes, search_bytes}
 
 entries_then : (id : ℕ) (s : SearchValue) (entries : List DirEntry) (last : MessageValue)
     → flat_map message_bytes (map (λ (e : DirEntry). reply id (entry (sent s e))) entries ++ last ∷ []) ≡ entries_bytes id s entries ++ message_bytes last
@@ -59,18 +61,34 @@ front_bytes false id s e rest left some = refl
 front_bytes true id s e rest zero some = absurd (some refl)
 front_bytes true id s e rest (suc left) some = let less : suc left - 1 ≡ left = omega arith in ap (λ (n : ℕ). entry_reply id s e ++ entries_bytes id s (take n rest)) less
 
-pub one_more : (id : ℕ) (s : SearchValue) (es : List DirEntry) (i : ℕ) (e : DirEntry) (left after : ℕ) (out new v : List ℕ) → i < length es → e ≡ get_or es i e → (left ≡ 0 → ⊥)
-    → new ≡ out ++ next_bytes (is_found s e) id s e → after ≡ next_left (is_found s e) left
-    → out ++ entries_bytes id s (take left (found (drop i es) s)) ≡ v
-    → new ++ entries_bytes id s (take after (found (drop (i + 1) es) s)) ≡ v
-one_more id s es i e left after out new v lt is some made less so_far =
-    let rest : List DirEntry = found (drop (i + 1) es) s in
+-- the bytes of what is at a place and of what is behind it
+front_at : (o : Option DirEntry) (id : ℕ) (s : SearchValue) (rest : List DirEntry) (left : ℕ) → (left ≡ 0 → ⊥)
+    → bytes_at o id s ++ entries_bytes id s (take (left_at o s left) (found rest s)) ≡ entries_bytes id s (take left (found (with_some o rest) s))
+front_at (Some e) id s rest left some = front_bytes (is_found s e) id s e (found rest s) left some
+front_at None id s rest left some = refl
+
+pub one_more : (id : ℕ) (s : SearchValue) (entries : List DirEntry) (ps : List ℕ) (i p left after : ℕ) (out new v : List ℕ) → drop i ps ≡ p ∷ drop (i + 1) ps → (left ≡ 0 → ⊥)
+    → new ≡ out ++ bytes_at (slice_get entries p) id s → after ≡ left_at (slice_get entries p) s left
+    → out ++ entries_bytes id s (take left (found (picked entries (drop i ps)) s)) ≡ v
+    → new ++ entries_bytes id s (take after (found (picked entries (drop (i + 1) ps)) s)) ≡ v
+one_more id s entries ps i p left after out new v at some made less so_far =
+    let o : Option DirEntry = slice_get entries p in
+    let behind : List DirEntry = picked entries (drop (i + 1) ps) in
+    let rest : List DirEntry = found behind s in
     ap (λ (bs : List ℕ). bs ++ entries_bytes id s (take after rest)) made
-    ∙ (ap (λ (n : ℕ). (out ++ next_bytes (is_found s e) id s e) ++ entries_bytes id s (take n rest)) less
-    ∙ (append_assoc out (next_bytes (is_found s e) id s e) (entries_bytes id s (take (next_left (is_found s e) left) rest))
-    ∙ (ap (λ (bs : List ℕ). out ++ bs) (front_bytes (is_found s e) id s e rest left some)
-    ∙ (ap (λ (xs : List DirEntry). out ++ entries_bytes id s (take left (found xs s))) (sym (at_place es i e lt is))
+    ∙ (ap (λ (n : ℕ). (out ++ bytes_at o id s) ++ entries_bytes id s (take n rest)) less
+    ∙ (append_assoc out (bytes_at o id s) (entries_bytes id s (take (left_at o s left) rest))
+    ∙ (ap (λ (bs : List ℕ). out ++ bs) (front_at o id s behind left some)
+    ∙ (ap (λ (xs : List ℕ). out ++ entries_bytes id s (take left (found (picked entries xs) s))) (sym at)
     ∙ so_far))))
+
+pub nothing_put : (out : List ℕ) → out ≡ out ++ []
+nothing_put out = sym (append-nil out)
+
+-- what is found where places are enough
+pub found_enough : (id : ℕ) (s : SearchValue) (entries : List DirEntry) (places : List ℕ) (v : List ℕ) → AreEnough (λ (e : DirEntry). is_found s e) entries places
+    → v ≡ flat_map message_bytes (found_replies id s (found (picked entries places) s)) → v ≡ flat_map message_bytes (found_replies id s (found entries s))
+found_enough id s entries places v enough made = made ∙ ap (λ (es : List DirEntry). flat_map message_bytes (found_replies id s es)) enough
 
 -- ---- searches
 

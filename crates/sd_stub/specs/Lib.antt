@@ -1,5 +1,8 @@
 pub mod Keeping
 pub mod Naming
+pub mod Numbers
+pub mod Covers
+pub mod Index
 pub mod Faults
 pub mod Replying
 pub mod Saying

@@ -1,10 +1,10 @@
 -- The bytes of replies.
-use Rattle.std.specs.Prelude.{ℕ, ◌-◌, Bool, List, [], ◌∷◌, if◌then◌else◌, flat_map}
+use Rattle.std.specs.Prelude.{ℕ, ◌-◌, Bool, List, [], ◌∷◌, if◌then◌else◌, flat_map, Option, Some, None}
 use Rattle.std.specs.List.{list_any}
 use Rattle.sd_ldap.specs.declared.entry.DirEntry.{DirEntry}
 use Rattle.sd_ldap.specs.Values.{SearchValue, entry, done, bind_response}
 use Rattle.sd_ldap.specs.Spelling.{message_bytes}
-use Rattle.sd_match.specs.Answering.{told, reply, sent, is_at_or_under, found, found_replies, search_replies, bind_code}
+use Rattle.sd_match.specs.Answering.{told, reply, sent, is_at_or_under, is_found, found, found_replies, search_replies, bind_code}
 
 -- an entry in a message
 abbrev pub entry_reply : ℕ → SearchValue → DirEntry → List ℕ
@@ -29,6 +29,15 @@ next_bytes is id s e = if is then entry_reply id s e else []
 
 abbrev pub next_left : Bool → ℕ → ℕ
 next_left is left = if is then left - 1 else left
+
+-- the same of what is at a place
+abbrev pub bytes_at : Option DirEntry → ℕ → SearchValue → List ℕ
+bytes_at (Some e) id s = next_bytes (is_found s e) id s e
+bytes_at None id s = []
+
+abbrev pub left_at : Option DirEntry → SearchValue → ℕ → ℕ
+left_at (Some e) s left = next_left (is_found s e) left
+left_at None s left = left
 
 abbrev pub search_bytes : List DirEntry → ℕ → SearchValue → List ℕ
 search_bytes entries id s = flat_map message_bytes (search_replies entries id s)

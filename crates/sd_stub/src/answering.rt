@@ -1,15 +1,19 @@
 //! Replies, as bytes.
-ghost use Rattle.std.specs.Prelude.{◌≡◌, ◌<◌, ℕ, Bool, List, [], ◌∷◌, length, ◌++◌, take, flat_map, IfOk, OnOk, Option, if◌then◌else◌, nat_lt, ◌&&◌};
+ghost use Rattle.std.specs.Prelude.{◌≡◌, ◌<◌, ℕ, Bool, List, [], ◌∷◌, length, ◌++◌, take, flat_map, slice_get, IfOk, OnOk, Option, if◌then◌else◌, nat_lt, ◌&&◌};
 ghost use Rattle.sd_dn.specs.Texts.{spelled};
 ghost use Rattle.sd_ldap.specs.declared.entry.DirEntry.{DirEntry};
 ghost use Rattle.sd_ldap.specs.Values.{message_value, operation_value, search_value};
 ghost use Rattle.sd_ldap.specs.Spelling.{message_bytes};
 ghost use Rattle.sd_match.specs.Answering.{told, is_found, found, found_replies, replies_by, reply_bytes};
-ghost use Rattle.sd_stub.specs.Replying.{entry_reply, entries_bytes, done_bytes, alone_bytes, bind_bytes, next_bytes, next_left, supported_bytes, search_bytes};
+ghost use Rattle.sd_stub.specs.Covers.{AreEnough, picked};
+ghost use Rattle.sd_stub.specs.Index.{IsIndex};
+ghost use Rattle.sd_stub.specs.Replying.{bytes_at, left_at, entry_reply, entries_bytes, done_bytes, alone_bytes, bind_bytes, next_bytes, next_left, supported_bytes, search_bytes};
 
 use crate::binding::bind_code;
+use crate::index::Index;
+use crate::narrowing::{has_base_in, narrowest};
 use crate::placed::Placed;
-use crate::searching::{count_found, has_base, is_found};
+use crate::searching::{count_found, is_found};
 use crate::sending::sent;
 use sd_base::{Memory, Text};
 use sd_dn::{Dn, spelled};
@@ -82,25 +86,48 @@ fn put_next(
     Ok(left - 1)
 }
 
-/// Puts the first entries that a search finds, as many as the limit, each in a message.
+/// Puts the entry at a place, if there is one, where a search finds it; then how many are still to be put.
+#[tactic(auto, using(crate::proofs::Replies::nothing_put))]
+fn put_at(
+    alloc: Global,
+    out: &mut Vec<u8>,
+    id: u32,
+    request: &SearchRequest,
+    entries: &[Placed],
+    place: usize,
+    base: &Option<Dn>,
+    left: usize,
+) -> Result<usize, Memory>
+    requires base { base.now ≡ spelled request.now.base }
+    requires left { 0 < left }
+    ensures { IfOk result (λ after. (out.new.items ≡ out.old.items ++ bytes_at (slice_get entries.now place) id (search_value request.now)) × (after ≡ left_at (slice_get entries.now place) (search_value request.now) left)) }
+{
+    match entries.get(place) {
+        Some(placed) => put_next(alloc, out, id, request, placed, base, left),
+        None => Ok(left),
+    }
+}
+
+/// Puts the first entries that a search finds at some places, as many as the limit, each in a message.
 fn put_found(
     alloc: Global,
     out: &mut Vec<u8>,
     id: u32,
     request: &SearchRequest,
     entries: &[Placed],
+    places: &[usize],
     base: &Option<Dn>,
     limit: usize,
 ) -> Result<(), Memory>
     requires { base.now ≡ spelled request.now.base }
-    ensures { OnOk result (out.new.items ≡ out.old.items ++ entries_bytes id (search_value request.now) (take limit (found entries.now (search_value request.now)))) }
+    ensures { OnOk result (out.new.items ≡ out.old.items ++ entries_bytes id (search_value request.now) (take limit (found (picked entries.now places.now) (search_value request.now)))) }
 {
     let mut left = limit;
-    for placed in entries {
+    for place in places {
         if left == 0 {
             return Ok(());
         }
-        let after = put_next(alloc, out, id, request, placed, base, left)?;
+        let after = put_at(alloc, out, id, request, entries, *place, base, left)?;
         left = after;
     }
     Ok(())
@@ -117,21 +144,23 @@ fn limited(size: u32, count: usize) -> (usize, u32)
     (count, 0)
 }
 
-/// The replies to a search whose base is there.
+/// The replies to a search whose base is there and whose entries are at some places.
 fn found_bytes(
     alloc: Global,
     id: u32,
     request: &SearchRequest,
     entries: &[Placed],
+    places: &[usize],
     base: &Option<Dn>,
 ) -> Result<Vec<u8>, Memory>
-    requires { base.now ≡ spelled request.now.base }
+    requires base { base.now ≡ spelled request.now.base }
+    requires enough { AreEnough (λ (e : DirEntry). is_found (search_value request.now) e) entries.now places.now }
     ensures { IfOk result (λ v. v.items ≡ flat_map message_bytes (found_replies id (search_value request.now) (found entries.now (search_value request.now)))) }
 {
-    let count = count_found(entries, request, base);
+    let count = count_found(entries, places, request, base);
     let (limit, code) = limited(request.size, count);
     let mut out = Vec::new(alloc);
-    put_found(alloc, &mut out, id, request, entries, base, limit)?;
+    put_found(alloc, &mut out, id, request, entries, places, base, limit)?;
     put_done(alloc, &mut out, id, code)?;
     Ok(out)
 }
@@ -150,17 +179,21 @@ fn done_alone(alloc: Global, id: u32, code: u32) -> Result<Vec<u8>, Memory>
 fn supported(
     alloc: Global,
     entries: &[Placed],
+    index: &Index,
     id: u32,
     request: &SearchRequest,
 ) -> Result<Vec<u8>, Memory>
+    requires { IsIndex index.now entries.now }
     ensures { IfOk result (λ v. v.items ≡ supported_bytes entries.now id (search_value request.now)) }
 {
     let base = spelled(alloc, request.base.bytes())?;
-    if !has_base(entries, &base) {
+    if !has_base_in(entries, index, &base) {
         let bytes = done_alone(alloc, id, 32)?;
         return Ok(bytes);
     }
-    let bytes = found_bytes(alloc, id, request, entries, &base)?;
+    let number = narrowest(alloc, entries, index, request, &base)?;
+    let places = index.places(number);
+    let bytes = found_bytes(alloc, id, request, entries, places, &base)?;
     Ok(bytes)
 }
 
@@ -168,16 +201,18 @@ fn supported(
 fn search(
     alloc: Global,
     entries: &[Placed],
+    index: &Index,
     id: u32,
     request: &SearchRequest,
 ) -> Result<Vec<u8>, Memory>
+    requires { IsIndex index.now entries.now }
     ensures { IfOk result (λ v. v.items ≡ search_bytes entries.now id (search_value request.now)) }
 {
     if has_unsupported(&request.filter) {
         let bytes = done_alone(alloc, id, 53)?;
         return Ok(bytes);
     }
-    let bytes = supported(alloc, entries, id, request)?;
+    let bytes = supported(alloc, entries, index, id, request)?;
     Ok(bytes)
 }
 
@@ -185,13 +220,15 @@ fn search(
 fn bind(
     alloc: Global,
     entries: &[Placed],
+    index: &Index,
     id: u32,
     name: &Text,
     password: &Text,
 ) -> Result<Vec<u8>, Memory>
+    requires { IsIndex index.now entries.now }
     ensures { IfOk result (λ v. v.items ≡ bind_bytes entries.now id name.now password.now) }
 {
-    let code = bind_code(alloc, entries, name, password)?;
+    let code = bind_code(alloc, entries, index, name, password)?;
     let message = Message {
         id,
         operation: Operation::BindResponse(told(alloc, code)?),
@@ -201,15 +238,21 @@ fn bind(
 }
 
 /// The bytes of the replies to a message.
-pub fn replies(alloc: Global, entries: &[Placed], message: &Message) -> Result<Vec<u8>, Memory>
+pub fn replies(
+    alloc: Global,
+    entries: &[Placed],
+    index: &Index,
+    message: &Message,
+) -> Result<Vec<u8>, Memory>
+    requires { IsIndex index.now entries.now }
     ensures { IfOk result (λ v. v.items ≡ reply_bytes entries.now (message_value message.now)) }
 {
     match &message.operation {
         Operation::BindRequest(_, name, password) => bind(
-            alloc, entries, message.id, name, password,
+            alloc, entries, index, message.id, name, password,
         ),
         Operation::Unbind => Ok(Vec::new(alloc)),
-        Operation::Search(request) => search(alloc, entries, message.id, request),
+        Operation::Search(request) => search(alloc, entries, index, message.id, request),
         Operation::BindResponse(_) => done_alone(alloc, message.id, 53),
         Operation::Entry(_) => done_alone(alloc, message.id, 53),
         Operation::Done(_) => done_alone(alloc, message.id, 53),

@@ -1,12 +1,16 @@
 //! Binds.
-ghost use Rattle.std.specs.Prelude.{◌≡◌, ℕ, Bool, List, Option, ◌&&◌, codes, IfOk};
+ghost use Rattle.std.specs.Prelude.{◌≡◌, ℕ, Bool, List, Option, ◌&&◌, codes, slice_get, IfOk};
 ghost use Rattle.std.specs.List.{list_any};
 ghost use Rattle.std.specs.Cmp.Lexicographic.{pointwise};
 ghost use Rattle.sd_dn.specs.Comparing.{same_dn};
 ghost use Rattle.sd_dn.specs.Texts.{spelled, both_meet, same_dn_text};
 ghost use Rattle.sd_match.specs.Answering.{same_bytes, is_password, has_password, is_right, bind_code};
 ghost use Rattle.sd_ldap.specs.declared.entry.DirEntry.{DirEntry};
+ghost use Rattle.sd_stub.specs.Covers.{passes_at};
+ghost use Rattle.sd_stub.specs.Index.{IsIndex};
 
+use crate::index::Index;
+use crate::numbers::base_number;
 use crate::placed::Placed;
 use sd_base::{Memory, Text};
 use sd_dn::compare::same_text;
@@ -49,26 +53,47 @@ fn accepts(placed: &Placed, name: &Option<Dn>, password: &[u8]) -> bool
     placed.is_named(name) && has_password(placed.entry(), password)
 }
 
-fn is_right(entries: &[Placed], name: &Option<Dn>, password: &[u8]) -> bool
+fn accepts_at(entries: &[Placed], place: usize, name: &Option<Dn>, password: &[u8]) -> bool
+    ensures { result ≡ passes_at (λ (e : DirEntry). both_meet same_dn (spelled e.dn) name.now && has_password password.now e) (slice_get entries.now place) }
+{
+    match entries.get(place) {
+        Some(placed) => accepts(placed, name, password),
+        None => false,
+    }
+}
+
+fn one_accepts(entries: &[Placed], places: &[usize], name: &Option<Dn>, password: &[u8]) -> bool
+    ensures { result ≡ list_any (λ (p : ℕ). passes_at (λ (e : DirEntry). both_meet same_dn (spelled e.dn) name.now && has_password password.now e) (slice_get entries.now p)) places.now }
+{
+    places
+        .iter()
+        .any(|place| accepts_at(entries, *place, name, password))
+}
+
+fn is_right(entries: &[Placed], index: &Index, name: &Option<Dn>, password: &[u8]) -> bool
+    requires { IsIndex index.now entries.now }
     ensures { result ≡ list_any (λ (e : DirEntry). both_meet same_dn (spelled e.dn) name.now && has_password password.now e) entries.now }
 {
-    entries.iter().any(|placed| accepts(placed, name, password))
+    let places = index.places(base_number(name));
+    one_accepts(entries, places, name, password)
 }
 
 /// The result code of a simple bind.
 pub fn bind_code(
     alloc: Global,
     entries: &[Placed],
+    index: &Index,
     name: &Text,
     password: &Text,
 ) -> Result<u32, Memory>
+    requires { IsIndex index.now entries.now }
     ensures { IfOk result (λ code. code ≡ bind_code entries.now name.now password.now) }
 {
     if password.bytes().is_empty() {
         return Ok(if name.bytes().is_empty() { 0 } else { 53 });
     }
     let dn = spelled(alloc, name.bytes())?;
-    if is_right(entries, &dn, password.bytes()) {
+    if is_right(entries, index, &dn, password.bytes()) {
         return Ok(0);
     }
     Ok(49)

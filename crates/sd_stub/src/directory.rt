@@ -9,6 +9,7 @@ ghost use Rattle.sd_stub.specs.Faults.{fault_of, fault_in, Tells};
 
 use crate::answering::replies;
 use crate::fault::StubFault;
+use crate::index::{Index, index_of};
 use crate::keeping::{by_name, in_order};
 use crate::placed::Placed;
 use sd_base::{Items, Memory};
@@ -16,20 +17,24 @@ use sd_ldap::{Decoded, DirEntry, Message, decode};
 use std::alloc::Global;
 use std::marker::Model;
 
-/// Entries, no two of one DN.
+/// Entries, no two of one DN, with an index by their DNs and values.
 #[derive(Drop)]
 pub struct Directory {
     alloc: Global,
     entries: Items<Placed>,
+    index: Index,
 }
 
 impl Model for Directory {
     ghost use Rattle.std.specs.Prelude.{List};
     ghost use Rattle.sd_ldap.specs.declared.entry.DirEntry.{DirEntry};
+    ghost use Rattle.sd_stub.specs.Index.{IsIndex};
 
     ghost Value = { List DirEntry };
 
     ghost view = { λ d. d.entries };
+
+    ghost invariant = { λ d. IsIndex d.index d.entries };
 }
 
 impl Directory {
@@ -38,9 +43,12 @@ impl Directory {
         ensures { IfOk result (λ directory. directory ≡ kept entries.items) }
     {
         let named = by_name(alloc, entries)?;
+        let entries = in_order(alloc, named)?;
+        let index = index_of(alloc, entries.items())?;
         Ok(Directory {
             alloc,
-            entries: in_order(alloc, named)?,
+            entries,
+            index,
         })
     }
 
@@ -80,7 +88,7 @@ impl Directory {
     pub(crate) fn replies(&self, message: &Message) -> Result<Vec<u8>, Memory>
         ensures { IfOk result (λ v. v.items ≡ reply_bytes self.now (message_value message.now)) }
     {
-        replies(self.alloc, self.entries.items(), message)
+        replies(self.alloc, self.entries.items(), &self.index, message)
     }
 
     pub(crate) fn allocator(&self) -> Global {

@@ -4,8 +4,10 @@ ghost use Rattle.sd_dn.specs.Comparing.{same_dn, ends_with};
 ghost use Rattle.sd_dn.specs.Texts.{spelled, both_meet};
 ghost use Rattle.sd_match.specs.Answering.{is_child, in_scope};
 ghost use Rattle.sd_stub.specs.Naming.{IsNameOf};
+ghost use Rattle.sd_stub.specs.Numbers as numbers;
 
 use crate::naming::{Name, name_of};
+use crate::numbers::entry_numbers;
 use sd_base::Memory;
 use sd_dn::{Dn, dn_equal, is_at_or_under, spelled};
 use sd_ldap::DirEntry;
@@ -50,6 +52,13 @@ impl Placed {
         ensures { IfOk result (λ name. IsNameOf name number (spelled self.now.dn)) }
     {
         name_of(alloc, &self.dn, number)
+    }
+
+    /// The numbers under which it is found.
+    pub fn numbers(&self, alloc: Global) -> Result<Vec<u32>, Memory>
+        ensures { IfOk result (λ made. made.items ≡ numbers.entry_numbers self.now) }
+    {
+        entry_numbers(alloc, &self.entry, &self.dn)
     }
 
     /// Whether it is the entry of this DN.

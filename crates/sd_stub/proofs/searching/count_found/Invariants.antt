@@ -1,8 +1,9 @@
 use Rattle.std.proofs.Common.{◌≡◌, ◌≤◌, ◌+◌, length, drop}
 use Rattle.sd_ldap.specs.Values.{search_value}
 use Rattle.sd_match.specs.Answering.{found}
+use Rattle.sd_stub.specs.Covers.{picked}
 use Rattle.sd_stub.proofs.searching.count_found.Given as goal
 
 -- those found so far, and those that are left
-abbrev pub invariant-loop-placed : goal.invariant-loop-placed
-invariant-loop-placed l = (l.count + length (found (drop l.placed-index l.entries) (search_value l.request)) ≡ length (found l.entries (search_value l.request))) × (l.count ≤ l.placed-index)
+abbrev pub invariant-loop-place : goal.invariant-loop-place
+invariant-loop-place l = (l.count + length (found (picked l.entries (drop l.place-index l.places)) (search_value l.request)) ≡ length (found (picked l.entries l.places) (search_value l.request))) × (l.count ≤ l.place-index)
