@@ -2,11 +2,12 @@
 ghost use Rattle.std.specs.Prelude.{◌≡◌, false, IfOk, None};
 ghost use Rattle.sd_keeper.specs.Keeping as keeping;
 
-use crate::file;
 use crate::table::{self, Found, Kept};
+use crate::{copy, file};
 use sd_base::{Blobs, Bytes};
 use sd_keeper::{Keeper, KeeperFault, holds_hash};
-use sqlite::{Connection, Error, ErrorCode, File, FileStore};
+use sqlite::{Alter, Connection, Error, ErrorCode, File, FileStore};
+use std::alloc::Global;
 use std::io;
 use std::io::ErrorKind;
 
@@ -58,25 +59,58 @@ fn open(rt: &HostRuntime, path: &str) -> Result<(Open, Found), Fault> {
         Err(error) => return Err(Fault::Io(error)),
     }
     let mut conn = sql(Connection::open(rt, path))?;
-    let found = sql(table::content_of(&mut conn))?;
-    if found == Found::Other {
-        return Err(Fault::NoStore);
-    }
+    let found = found_in(&mut conn)?;
     Ok((conn, found))
 }
 
-fn kept_of(rt: &HostRuntime, conn: &mut Open, found: Found) -> Result<Kept, Fault> {
-    if found == Found::Nothing {
-        return Ok(Kept::nothing(rt.alloc()));
+/// What a database holds, where it is a store.
+fn found_in<S: Alter>(conn: &mut Connection<S>) -> Result<Found, Fault> {
+    match sql(table::content_of(conn))? {
+        Found::Other => Err(Fault::NoStore),
+        found => Ok(found),
     }
-    sql(table::kept_in(rt.alloc(), conn))
 }
 
-fn read(rt: &HostRuntime, path: &str) -> Result<Blobs, Fault> {
+fn kept_of<S: Alter>(alloc: Global, conn: &mut Connection<S>, found: Found) -> Result<Kept, Fault> {
+    if found == Found::Nothing {
+        return Ok(Kept::nothing(alloc));
+    }
+    sql(table::kept_in(alloc, conn))
+}
+
+fn read_file(rt: &HostRuntime, path: &str) -> Result<Blobs, Fault> {
     let (mut conn, found) = open(rt, path)?;
-    let kept = kept_of(rt, &mut conn, found)?;
+    let kept = kept_of(rt.alloc(), &mut conn, found)?;
     sql(conn.close())?;
     Ok(kept.into_blobs())
+}
+
+/// What the copy of a store keeps.
+fn read_copy(rt: &HostRuntime, path: &str) -> Result<Blobs, Fault> {
+    let mut conn = sql(copy::open(rt, path))?;
+    let found = found_in(&mut conn)?;
+    let kept = kept_of(rt.alloc(), &mut conn, found)?;
+    Ok(kept.into_blobs())
+}
+
+/// Whether a store that was refused so stands where nothing can be written, since the file system is full or read-only.
+fn is_without_room(rt: &HostRuntime, path: &str, fault: &Fault) -> bool {
+    match fault {
+        Fault::Sql(Error::SqliteFailure(ErrorCode::DiskFull)) => true,
+        Fault::Sql(Error::SqliteFailure(ErrorCode::CannotOpen)) => {
+            matches!(file::is_without_room(rt, path), Ok(true))
+        }
+        _ => false,
+    }
+}
+
+/// What a store keeps. SQLite opens a file for writing and begins a log beside it, so where that has no room a copy in memory is
+/// read.
+fn read(rt: &HostRuntime, path: &str) -> Result<Blobs, Fault> {
+    match read_file(rt, path) {
+        Err(fault) if is_without_room(rt, path, &fault) => read_copy(rt, path),
+        done => done,
+    }
 }
 
 /// The blobs behind the first that is this one.
@@ -143,7 +177,7 @@ fn change_and_close(mut conn: Open, found: Found, kept: &Kept, blobs: &Blobs) ->
 /// bodies in pages that it uses no more.
 fn write(rt: &HostRuntime, path: &str, blobs: &Blobs) -> Result<(), Fault> {
     let (mut conn, found) = open(rt, path)?;
-    let kept = kept_of(rt, &mut conn, found)?;
+    let kept = kept_of(rt.alloc(), &mut conn, found)?;
     if loses_hash(kept.blobs.items(), blobs.items()) {
         close_and_write(rt, path, conn, blobs.items())
     } else {

@@ -1,6 +1,7 @@
 //! A keeper over a SQLite file.
 #![tactic(auto)]
 
+mod copy;
 mod file;
 mod keeper;
 mod table;
