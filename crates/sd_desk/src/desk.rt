@@ -31,6 +31,7 @@ impl Desk {
     ghost use Rattle.sd_rules.specs.Reaching.{Reaches};
     ghost use Rattle.sd_rules.specs.Steps as steps;
     ghost use Rattle.sd_past.specs.Closing.{closes_place};
+    ghost use Rattle.sd_core.specs.Laws.{IsKept};
     ghost use Rattle.sd_core.specs.Looks.{has_stopped};
     ghost use Rattle.sd_rules.specs.KeptRows.{rows_of};
     ghost use Rattle.sd_rules.specs.TextBytes.{bytes_of_row};
@@ -77,6 +78,7 @@ impl Desk {
         ensures mine { mine seat.new ≡ mine seat.old }
         ensures front { front self.now seat.new ≡ held.value.core.value }
         ensures reaches { Reaches (front self.now seat.old) held.value.core.value }
+        ensures kept { IsKept (front self.now seat.new) }
     {
         let counts = held.value().counts();
         self.turn.give(&mut seat.seat, held);
@@ -104,7 +106,9 @@ impl Desk {
         ensures mine { OnErr result (mine seat.new ≡ mine seat.old) }
         ensures back { IfErr result (λ refused. refused.event ≡ event) }
         ensures full { IfErr result (λ refused. (n : ℕ) → refused.fault ≡ StepFault.JournalFull n → WasFull held.value.core.value event n) }
+        ensures memory { IfErr result (λ refused. refused.fault ≡ StepFault.Memory → steps.is_full held.value.core.value event ≡ false) }
         ensures closing { OnErr result (closes_place held.value.core.value.past event ≡ false) }
+        ensures kept { IsKept (front self.now seat.new) }
     {
         match held.value().step(now, event) {
             Ok(given) => {
@@ -147,6 +151,9 @@ impl Desk {
             → (found seat.new ≢ 0) × (front self.now seat.new ≡ front self.now seat.old)) }
         ensures full { IfErr result (λ refused. (n : ℕ) → refused.fault ≡ DeskFault.JournalFull n
             → (found seat.new ≡ 0) × WasFull (front self.now seat.new) event n) }
+        ensures memory { IfErr result (λ refused. refused.fault ≡ DeskFault.Memory
+            → (found seat.new ≡ 0) × (steps.is_full (front self.now seat.new) event ≡ false)) }
+        ensures kept { found seat.new ≡ 0 → IsKept (front self.now seat.new) }
     {
         let Ok(held) = self.try_take(seat) else {
             return Err(DeskRefused {
@@ -183,9 +190,13 @@ impl Desk {
         ensures mine { OnErr result (mine seat.new ≡ mine seat.old) }
         ensures back { IfErr result (λ refused. refused.event ≡ event) }
         ensures full { IfErr result (λ refused. (n : ℕ) → refused.fault ≡ StepFault.JournalFull n → WasFull (front self.now seat.new) event n) }
+        ensures memory { IfErr result (λ refused. refused.fault ≡ StepFault.Memory → steps.is_full (front self.now seat.new) event ≡ false) }
 
         // An Abandon of what is open in the journal that was found, and a Leave of a ticket that waits in it, are made.
         ensures closing { OnErr result (closes_place (front self.now seat.new).past event ≡ false) }
+
+        // Numbers rise in the journal that is the seat's front then, and all else holds of it that a core keeps.
+        ensures kept { IsKept (front self.now seat.new) }
     {
         let held = self.take(rt, seat);
         self.step_held(seat, held, now, event)
@@ -217,6 +228,9 @@ impl Desk {
         ensures full { IfErr result (λ fault. (n : ℕ) → fault ≡ CollectFault.JournalFull n
             → (found seat.new ≡ 0) × WasFull (front self.now seat.new) (Event.Collect ticket) n
             × (waits_for (front self.now seat.new).past ticket ≡ None)) }
+        ensures memory { IfErr result (λ fault. fault ≡ CollectFault.Memory
+            → (found seat.new ≡ 0) × (steps.is_full (front self.now seat.new) (Event.Collect ticket) ≡ false)) }
+        ensures kept { found seat.new ≡ 0 → IsKept (front self.now seat.new) }
     {
         let Ok(mut held) = self.try_take(seat) else {
             return Err(CollectFault::Busy);
@@ -256,6 +270,7 @@ impl Desk {
         ensures reaches { Reaches (front self.now seat.old) (front self.now seat.new) }
         ensures mine { mine seat.new ≡ mine seat.old }
         ensures stopping { result ≡ has_stopped (front self.now seat.new).past }
+        ensures kept { IsKept (front self.now seat.new) }
     {
         let mut held = self.take(rt, seat);
         let stopping = held.value().stopping();
@@ -274,6 +289,7 @@ impl Desk {
         ensures reaches { Reaches (front self.now seat.old) (front self.now seat.new) }
         ensures mine { mine seat.new ≡ mine seat.old }
         ensures forgot { IfOk result (Forgot (front self.now seat.old) (front self.now seat.new)) }
+        ensures kept { IsKept (front self.now seat.new) }
     {
         let mut held = self.take(rt, seat);
         let dropped = held.value().forget();
@@ -294,6 +310,7 @@ impl Desk {
         ensures rows { IfOk result (λ rows. rows ≡ rows_of (front self.now seat.new)) }
         ensures few { IfOk result (λ rows. length rows < 2 ^ 32) }
         ensures texts { IfOk result (λ rows. sum_by bytes_of_row rows ≤ most_text) }
+        ensures kept { IsKept (front self.now seat.new) }
     {
         let mut held = self.take(rt, seat);
         let rows = held.value().kept();

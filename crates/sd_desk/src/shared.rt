@@ -86,6 +86,7 @@ impl SharedCore {
 
     /// What a seat that gives this core back knows of its journal.
     pub(crate) fn counts(&self) -> Counts
+        ensures kept { laws.IsKept self.now.core.value }
         ensures next { result.next ≡ self.now.core.value.next }
         ensures entries { result.entries ≡ length self.now.core.value.past }
         ensures left { result.left ≡ self.now.left }
@@ -129,6 +130,7 @@ impl SharedCore {
         ensures given { IfOk result (λ given. given ≡ steps.given self.old.core.value now event) }
         ensures room { OnOk result (steps.is_full self.old.core.value event ≡ false) }
         ensures full { IfErr result (λ refused. (n : ℕ) → refused.fault ≡ StepFault.JournalFull n → WasFull self.old.core.value event n) }
+        ensures memory { IfErr result (λ refused. refused.fault ≡ StepFault.Memory → steps.is_full self.old.core.value event ≡ false) }
         ensures back { IfErr result (λ refused. refused.event ≡ event) }
         ensures unchanged { OnErr result (self.new.core.value ≡ self.old.core.value) }
         ensures closing { OnErr result (closes_place self.old.core.value.past event ≡ false) }
