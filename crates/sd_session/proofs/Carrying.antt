@@ -1,5 +1,5 @@
 -- A step that the engine named, and what it is told of it.
-use Rattle.std.proofs.Common.{◌≡◌, ◌∙◌, ℕ, true, List, [], ◌∷◌, Option, Some, None, refl, sym, ap, subst}
+use Rattle.std.proofs.Common.{◌≡◌, ◌∙◌, ℕ, true, List, [], ◌∷◌, Option, Some, None, refl, sym, subst}
 use Rattle.std.specs.Prelude.{IfSome}
 use Rattle.sd_rules.specs.declared.events.Event.{Event}
 use Rattle.sd_rules.specs.declared.replies.Given.{Given}
@@ -15,9 +15,9 @@ use Rattle.sd_desk.proofs.Reached.{speaks_after, speaks_reached}
 use Rattle.sd_engine.specs.declared.ending.SessionEnd.{SessionEnd}
 use Rattle.sd_engine.specs.declared.ending.SessionEnd.TheVariants as ends
 use Rattle.sd_engine.specs.Engines.{Engine, replied}
-use Rattle.sd_session.specs.Sessions.{Company, Trace, Move, Finds, Refuses, stand_after}
+use Rattle.sd_session.specs.Sessions.{Company, Trace, Finds, Refuses, stand_after}
 use Rattle.sd_session.specs.Spoken.{AllSpeak, IsSpoken, KeepsNamed}
-use Rattle.sd_session.specs.Running.{Outside, Awaits, Stands, GoesOn, EndsIn, Turned, TellsOf, tracing}
+use Rattle.sd_session.specs.Running.{LeadsOn, Outside, Awaits, Stands, GoesOn, EndsIn, Turned, TellsOf, tracing}
 use Rattle.sd_session.specs.Stepping.{IsMade, IsRefused, IsWaited}
 use Rattle.sd_session.proofs.SpokenLaws.{event_awaits, known_steppable, known_after, given_fits}
 use Rattle.sd_session.proofs.Standing.{stands_steps, stands_waits}
@@ -65,31 +65,31 @@ speaks_on w daemon daemon' e event gave before later far a m =
 pub carries_on : (w : Company) (seed : List ℕ) (config : Config) (o : Outside) (daemon daemon' : Daemon) (e f : Engine) (event : Event) (gave : Given) (trace trace' : Trace) → Far w → Awaits daemon e event
     → IsMade w daemon event gave daemon' trace trace' → IfSome e.client (λ c. f ≡ replied e c gave) → GoesOn w seed config e daemon (tracing o trace) f daemon' (tracing o trace')
 carries_on w seed config o daemon daemon' e f event gave trace trace' far a m told = λ d before s.
-    stands_steps w seed config d before e f daemon daemon' (tracing o trace) (tracing o trace') a.client event gave s a.is a.needed m (may_step daemon m.found e event a (far daemon m.found m.others))
+    stands_steps w seed config d before e f daemon daemon' (tracing o trace) (tracing o trace') a.client event gave s a.is a.needed a.about_it m (far daemon m.found m.others) (may_step daemon m.found e event a (far daemon m.found m.others))
     (speaks_on w daemon daemon' e event gave trace trace' far a m) (subst (λ (x : Option Client). IfSome x (λ c. f ≡ replied e c gave)) a.is told) refl
 
-pub carries_untold : (w : Company) (seed : List ℕ) (config : Config) (o : Outside) (daemon daemon' : Daemon) (e : Engine) (event : Event) (gave : Given) (trace trace' : Trace) → Far w → Awaits daemon e event
-    → IsMade w daemon event gave daemon' trace trace' → EndsIn w seed config ends.Memory e daemon (tracing o trace) daemon' (tracing o trace')
-carries_untold w seed config o daemon daemon' e event gave trace trace' far a m = λ d before s.
-    ran_untold w seed config d before e daemon daemon' (tracing o trace) (tracing o trace') a.client event gave s a.is a.needed m (may_step daemon m.found e event a (far daemon m.found m.others)) refl
+pub carries_untold : (w : Company) (seed : List ℕ) (config : Config) (o : Outside) (daemon daemon' : Daemon) (e f : Engine) (event : Event) (gave : Given) (trace trace' : Trace) → Far w → Awaits daemon e event
+    → IsMade w daemon event gave daemon' trace trace' → LeadsOn e gave f → EndsIn w seed config ends.Memory e daemon (tracing o trace) f daemon' (tracing o trace')
+carries_untold w seed config o daemon daemon' e f event gave trace trace' far a m leads = λ d before s.
+    ran_untold w seed config d before e f daemon daemon' (tracing o trace) (tracing o trace') a.client event gave s a.is a.needed a.about_it m (far daemon m.found m.others) (may_step daemon m.found e event a (far daemon m.found m.others)) leads refl
 
 -- what is so besides the want of room, wherever the session stood before a step that was refused as full
 abbrev pub Forgot : Company → List ℕ → Config → SessionEnd → Engine → Daemon → Outside → Daemon → Event → ℕ → Type 0
 Forgot w seed config ending e daemon o daemon' event now =
     (d : Daemon) (before : Outside) (s : Stands w seed config d before e daemon o) (count : ℕ) → ending ≡ ends.JournalFull count → w.full (stand_after seed config d (Refuses now ∷ Finds daemon' ∷ s.moves)) event count
 
-pub carries_refused : (w : Company) (seed : List ℕ) (config : Config) (o : Outside) (ending : SessionEnd) (daemon daemon' : Daemon) (e : Engine) (event : Event) (trace trace' : Trace) → Awaits daemon e event
-    → (r : IsRefused w daemon event ending daemon' trace trace') → Forgot w seed config ending e daemon (tracing o trace) daemon' event r.now → EndsIn w seed config ending e daemon (tracing o trace) daemon' (tracing o trace')
-carries_refused w seed config o ending daemon daemon' e event trace trace' a r forgot = λ d before s.
-    ran_refused w seed config d before ending e daemon daemon' (tracing o trace) (tracing o trace') a.client event s a.is a.needed r (forgot d before s) refl
+pub carries_refused : (w : Company) (seed : List ℕ) (config : Config) (o : Outside) (ending : SessionEnd) (daemon daemon' : Daemon) (e : Engine) (event : Event) (trace trace' : Trace) → Far w → Awaits daemon e event
+    → (r : IsRefused w daemon event ending daemon' trace trace') → Forgot w seed config ending e daemon (tracing o trace) daemon' event r.now → EndsIn w seed config ending e daemon (tracing o trace) e daemon' (tracing o trace')
+carries_refused w seed config o ending daemon daemon' e event trace trace' far a r forgot = λ d before s.
+    ran_refused w seed config d before ending e daemon daemon' (tracing o trace) (tracing o trace') a.client event s a.is a.needed r (forgot d before s) (far daemon daemon' r.others) refl
 
 -- where the engine was told of the step, or memory was wanting for it
 pub told_turned : (w : Company) (seed : List ℕ) (config : Config) (o : Outside) (daemon daemon' : Daemon) (e f : Engine) (event : Event) (gave : Given) (trace trace' : Trace) (r : Option SessionEnd) → Far w → Awaits daemon e event
     → IsMade w daemon event gave daemon' trace trace' → TellsOf r e gave f → Turned w seed config r e daemon (tracing o trace) f daemon' (tracing o trace')
 told_turned w seed config o daemon daemon' e f event gave trace trace' None far a m told = carries_on w seed config o daemon daemon' e f event gave trace trace' far a m told
 told_turned w seed config o daemon daemon' e f event gave trace trace' (Some ending) far a m memory =
-    subst (λ (end : SessionEnd). EndsIn w seed config end e daemon (tracing o trace) daemon' (tracing o trace')) (sym memory)
-    (carries_untold w seed config o daemon daemon' e event gave trace trace' far a m)
+    subst (λ (end : SessionEnd). EndsIn w seed config end e daemon (tracing o trace) f daemon' (tracing o trace')) (sym memory.0)
+    (carries_untold w seed config o daemon daemon' e f event gave trace trace' far a m memory.1)
 
 -- ---- a step that is not made yet
 
@@ -101,10 +101,11 @@ awaits_on daemon daemon' e event to a = record {
   kind = a.kind;
   known = spoken_reached daemon daemon' a.client.course to a.known;
   ready = a.ready;
+  about_it = a.about_it;
 }
 
 pub carries_waiting : (w : Company) (seed : List ℕ) (config : Config) (o : Outside) (daemon daemon' : Daemon) (e : Engine) (event : Event) (trace trace' : Trace) → Far w → Awaits daemon e event
     → IsWaited w daemon daemon' trace trace' → GoesOn w seed config e daemon (tracing o trace) e daemon' (tracing o trace')
 carries_waiting w seed config o daemon daemon' e event trace trace' far a r = λ d before s.
-    stands_waits w seed config d before e daemon daemon' (tracing o trace) (tracing o trace') event s r
+    stands_waits w seed config d before e daemon daemon' (tracing o trace) (tracing o trace') event s r (far daemon daemon' r.others)
     (λ c is. subst (λ (x : Client). IsSpoken daemon' x.course) (same_client e.client a.client c a.is is) (spoken_reached daemon daemon' a.client.course (far daemon daemon' r.others) a.known)) refl

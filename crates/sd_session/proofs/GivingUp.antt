@@ -4,7 +4,7 @@ use Rattle.std.specs.Prelude.{IfOk, IfErr}
 use Rattle.sd_rules.specs.declared.events.Event.{Event}
 use Rattle.sd_rules.specs.declared.replies.Entry.{Entry}
 use Rattle.sd_rules.specs.declared.replies.Given.{Given}
-use Rattle.sd_rules.specs.Steps.{Daemon, after, entry_made}
+use Rattle.sd_rules.specs.Steps.{Daemon, entry_made}
 use Rattle.sd_engine.specs.declared.ending.SessionEnd.{SessionEnd}
 use Rattle.sd_session.specs.Sessions.{Company, Trace, ReadsOn}
 use Rattle.sd_session.specs.Stepping.{IsMade, IsRefused}

@@ -1,7 +1,6 @@
 -- A session at its beginning.
-use Rattle.std.proofs.Common.{◌≡◌, ℕ, true, false, List, [], Option, Some, None, refl, sym, ap, subst, append-nil, arith}
+use Rattle.std.proofs.Common.{◌≡◌, ℕ, true, false, List, [], Option, Some, None, refl, sym, subst, append-nil, arith}
 use Rattle.std.specs.Prelude.{IfSome}
-use Rattle.std.specs.Io.KnownBytes.{Consumes}
 use Rattle.std.proofs.KnownBytes.{Appends-nil, Consumes-nil}
 use Rattle.sd_rules.specs.Steps.{Daemon}
 use Rattle.sd_course.specs.Courses.{Client}
@@ -18,15 +17,19 @@ use Rattle.sd_session.proofs.Turning.{nothing_more}
 not_yet : {P : Type 0} → false ≡ true → P
 not_yet e = cc
 
+none_yet : {P : Type 0} {n : ℕ} → None ≡ Some n → P
+none_yet e = let clash : ⊥ = cc in absurd clash
+
 stands_at_first : (w : Company) (seed : List ℕ) (config : Config) (d : Daemon) (o : Outside) → Stands w seed config d o engines.begun d o
 stands_at_first w seed config d o = record {
   moves = [];
   may = tt;
   hand = record { same = refl; client = refl; in_hand = tt };
   heard = record { consumed = Consumes-nil o.left; place = refl; stops = refl; reads = omega arith };
-  written = record { written = Appends-nil o.held; failed = λ failed. not_yet failed; writes = omega arith };
+  written = record { written = Appends-nil o.held; broken = refl; told = tt; failed = λ b. not_yet b; writes = omega arith };
   trace = (reads_none o.trace.readings, sym (append-nil o.trace.entries));
   asked = record { operations = nothing_more o.dialling.operations; behind = λ i. refl; falls = omega arith; later = omega arith };
+  account = record { led = tt; held = tt; sorted = record { renews = refl; requests = λ n h. not_yet h; attempts = λ n h. none_yet h } };
 }
 
 pub stands_begun : (w : Company) (seed : List ℕ) (config : Config) (d : Daemon) (o : Outside) (e : Engine) → e ≡ engines.begun → Stands w seed config d o e d o

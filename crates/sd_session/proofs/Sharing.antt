@@ -1,6 +1,6 @@
 -- Steps at a desk, as moves of a session.
-use Rattle.std.proofs.Common.{◌≡◌, ◌∙◌, ℕ, Bool, true, false, cond, ◌&&◌, List, [], ◌∷◌, ◌++◌, Option, Result, Ok, Err, refl, sym, ap, subst}
-use Rattle.std.specs.Prelude.{IfOk, IfErr, OnErr}
+use Rattle.std.proofs.Common.{◌≡◌, ◌∙◌, ℕ, Bool, true, false, cond, ◌&&◌, List, [], ◌∷◌, Option, Result, Ok, Err, refl, sym, ap, subst}
+use Rattle.std.specs.Prelude.{IfOk, IfErr}
 use Rattle.sd_rules.specs.declared.events.Event.{Event}
 use Rattle.sd_rules.specs.declared.events.Event.TheVariants as events
 use Rattle.sd_rules.specs.declared.records.Answered.TheVariants.{Found, Absent}
@@ -11,7 +11,7 @@ use Rattle.sd_rules.specs.declared.replies.StepFault.{StepFault}
 use Rattle.sd_rules.specs.declared.replies.StepFault.TheVariants as faults
 use Rattle.sd_rules.specs.Reaching as reaching
 use Rattle.sd_rules.specs.Reaching.{Reaches, after_forget}
-use Rattle.sd_rules.specs.Steps.{Daemon, after, entry_made, is_steppable}
+use Rattle.sd_rules.specs.Steps.{Daemon, after, is_steppable}
 use Rattle.sd_rules.proofs.ReachingLaws.{reaches_self, reaches_through}
 use Rattle.sd_conf.specs.declared.config.Config.{Config}
 use Rattle.sd_clock.specs.Readings.{FollowsOn}
@@ -25,9 +25,9 @@ use Rattle.sd_engine.specs.declared.ending.SessionEnd.TheVariants as ends
 use Rattle.sd_engine.specs.Engines.{Engine}
 use Rattle.sd_session.specs.Desks.{at_desk}
 use Rattle.sd_engine.specs.Turns.{Dialling}
-use Rattle.sd_session.specs.Running.{Outside, Stands, Ran, tracing, outside_at}
-use Rattle.sd_session.specs.Sessions.{Trace, Move, Finds, Hears, Steps, Refuses, Fetches, Binds, Tells, Breaks, Finishes, Stand, AllMay, stand_after}
-use Rattle.sd_session.specs.Stepping.{IsMade, IsRefused, IsWaited, RefusedAs, end_of}
+use Rattle.sd_session.specs.Running.{Outside, outside_at}
+use Rattle.sd_session.specs.Sessions.{Company, Trace, Move, Finds, Hears, Steps, Refuses, Fetches, Binds, Tells, Breaks, Finishes, Stand, AllMay, stand_after}
+use Rattle.sd_session.specs.Stepping.{IsMade, RefusedAs, end_of}
 use Rattle.sd_session.specs.Withdrawing.{Try, after_tries, gives_up, AllGiveUp, Withdraws, MayWithdraw, Session, is_abrupt}
 use Rattle.sd_session.proofs.Carrying.{Far, Forgot as ForgotBefore}
 
@@ -172,14 +172,18 @@ either : (b : Bool) (d f e : Daemon) → Reaches d f → Reaches d e → Reaches
 either true d f e to other = to
 either false d f e to other = other
 
-reach_tries : (d : Daemon) (tries : List Try) → AllGiveUp at_desk d tries → Reaches d (after_tries d tries)
-reach_tries d [] all = reaches_self d
-reach_tries d (t ∷ tries) all =
-    let to : Reaches d t.found = reaches_through d (after_tries d tries) t.found (reach_tries d tries all.2) all.1 in
+reach_tries : (w : Company) → Far w → (d : Daemon) (tries : List Try) → AllGiveUp w d tries → Reaches d (after_tries d tries)
+reach_tries w far d [] all = reaches_self d
+reach_tries w far d (t ∷ tries) all =
+    let to : Reaches d t.found = reaches_through d (after_tries d tries) t.found (reach_tries w far d tries all.2) (far (after_tries d tries) t.found all.1) in
     either t.is_made d (after t.found t.now t.event) t.found (reaches_through d t.found (after t.found t.now t.event) to (one_step t.found t.now t.event (may_give_up t.found t.event all.0))) to
 
+-- what is given up leads to a journal that is reached
+pub withdraws_reach : (w : Company) → Far w → (d daemon : Daemon) (before now : Trace) → Withdraws w d daemon before now → Reaches d daemon
+withdraws_reach w far d daemon before now s = subst (Reaches d) (sym s.given_up) (reach_tries w far d s.tries s.give_up)
+
 reach_leaving : (abrupt : Bool) (d daemon : Daemon) (before now : Trace) → MayWithdraw at_desk abrupt d daemon before now → Reaches d daemon
-reach_leaving true d daemon before now w = subst (Reaches d) (sym w.given_up) (reach_tries d w.tries w.give_up)
+reach_leaving true d daemon before now w = withdraws_reach at_desk far_at_desk d daemon before now w
 reach_leaving false d daemon before now w = subst (Reaches d) (sym w.0) (reaches_self d)
 
 pub session_reaches : (seed : List ℕ) (config : Config) (d : Daemon) (before : Outside) (ending : SessionEnd) (daemon : Daemon) (now : Outside) → Session at_desk seed config d before ending daemon now → Reaches d daemon

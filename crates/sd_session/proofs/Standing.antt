@@ -1,12 +1,10 @@
 -- What a turn makes of where a session stands.
-use Rattle.std.proofs.Common.{◌≡◌, ◌∙◌, ◌⊎◌, ℕ, ◌+◌, ◌-◌, ◌^◌, ◌≤◌, Bool, true, false, List, [], ◌∷◌, ◌++◌, take, length, zero, suc, Option, Some, None, refl, sym, ap, subst, inl, inr, append_assoc, append-nil, length-append, arith}
-use Rattle.std.specs.Prelude.{IfSome, min}
+use Rattle.std.proofs.Common.{◌≡◌, ◌∙◌, ℕ, ◌+◌, ◌≤◌, Bool, true, false, List, [], ◌∷◌, ◌++◌, length, zero, suc, Option, Some, None, refl, sym, ap, subst, append_assoc, length-append, arith}
+use Rattle.std.specs.Prelude.{IfSome}
 use Rattle.std.specs.Option.{option_map}
 use Rattle.std.specs.Io.KnownBytes.{Appends, Consumes}
-use Rattle.std.proofs.KnownBytes.{Appends-nil, Appends-trans, Consumes-nil, Consumes-trans}
+use Rattle.std.proofs.KnownBytes.{Appends-trans, Consumes-trans}
 use Rattle.sd_base.specs.Causes.{Rose}
-use Rattle.sd_base.specs.Written.{AppendsFront}
-use Rattle.sd_base.specs.declared.Why.{Why}
 use Rattle.sd_base.specs.declared.Why.TheVariants as whys
 use Rattle.sd_rules.specs.declared.events.Event.{Event}
 use Rattle.sd_rules.specs.declared.keys.Key.{Key}
@@ -16,28 +14,33 @@ use Rattle.sd_rules.specs.declared.tasks.Bound.{Bound}
 use Rattle.sd_rules.specs.declared.tasks.Bound.TheVariants as bounds
 use Rattle.sd_rules.specs.declared.tasks.Fetched.{Fetched}
 use Rattle.sd_rules.specs.declared.tasks.Fetched.TheVariants as fetches
-use Rattle.sd_rules.specs.declared.tasks.Need.{Need}
 use Rattle.sd_rules.specs.declared.tasks.Need.TheVariants as needs
 use Rattle.sd_rules.specs.declared.tasks.Said.{Said}
-use Rattle.sd_rules.specs.Steps.{Daemon, after, entry_made, given, is_full, is_steppable}
+use Rattle.sd_rules.specs.Reaching.{Reaches}
+use Rattle.sd_rules.specs.Steps.{Daemon, after, entry_made, given, is_steppable}
 use Rattle.sd_conf.specs.declared.config.Config.{Config}
 use Rattle.sd_clock.specs.Readings.{FollowsOn}
-use Rattle.sd_dial.specs.Entries.{Behind}
 use Rattle.sd_dial.specs.Operations.{Operation}
 use Rattle.sd_inquiry.specs.Counting.{HasNotFallen}
 use Rattle.sd_inquiry.specs.Lookups.{with_operations}
 use Rattle.sd_inbox.specs.Taking.{Unread}
 use Rattle.sd_wire.specs.declared.requests.Request.{Request}
 use Rattle.sd_wire.specs.Frames.{frame_of}
-use Rattle.sd_course.specs.Courses.{Client, need_of, event_of, script_at, client_told, client_replied, client_fetched, client_bound, told, fetched, bound}
-use Rattle.sd_engine.specs.Answering.{reply_of}
-use Rattle.sd_engine.specs.Engines.{Engine, client_of, heard, with_inbox, with_client, awaiting, failing, done, replied, is_stop}
+use Rattle.sd_course.specs.Courses.{Client, need_of, event_of, client_told, client_replied, client_fetched, client_bound, told}
+use Rattle.sd_engine.specs.Engines.{Engine, client_of, heard, awaiting, done, replied}
+use Rattle.sd_course.specs.Names.{holds_order}
+use Rattle.sd_engine.specs.Leading.{about, leads_after, ticket_after}
 use Rattle.sd_engine.specs.Turns.{Dialling, HearsRequest, HearsBytes, GoesByFetch, GoesByBind, IsTold, IsUntold}
-use Rattle.sd_session.specs.Sessions.{Company, Move, Finds, Hears, Steps, Refuses, Fetches, Binds, Tells, Breaks, Finishes, Stand, AllMay, May, moved, stand_after, frames_of, last_stops, ReadsOn, Trace, TracesOn, CountsFalls, fetch_falls, bind_falls, NeedsStep, NeedsFetch, NeedsBind, NeedsSay, NeedsNothing}
+use Rattle.sd_session.specs.Sessions.{Company, Move, Finds, Hears, Steps, Refuses, Fetches, Binds, Tells, Breaks, Finishes, Stand, AllMay, moved, stand_after, frames_of, last_stops, ReadsOn, Trace, TracesOn, CountsFalls, fetch_falls, bind_falls}
 use Rattle.sd_session.specs.Spoken.{IsSpoken}
-use Rattle.sd_session.specs.Running.{Outside, IsInHand, IsHeardTo, IsWrittenTo, IsAskedTo, HasInHand, Stands}
+use Rattle.sd_session.specs.Holding.{is_told}
+use Rattle.sd_session.specs.Running.{WasTold, Outside, IsInHand, IsHeardTo, IsWrittenTo, IsAskedTo, Stands}
 use Rattle.sd_session.specs.Stepping.{IsMade, IsWaited}
+use Rattle.sd_session.specs.Closing.{Accounts}
+use Rattle.sd_session.proofs.Accounting.{account_same, account_hears, account_over, account_reached, account_steps}
 use Rattle.sd_session.proofs.Begun.{begun_is_spoken}
+use Rattle.sd_session.proofs.HeldLaws.{told_held, fetched_held, bound_held, first_holds_nothing, over_holds_nothing}
+use Rattle.sd_session.proofs.ToldLaws.{says_nothing_more, told_once, told_replied, told_fetched, told_bound}
 use Rattle.sd_session.proofs.SpokenLaws.{told_known, fetched_known, bound_known}
 
 -- ---- what is told of the outside goes on
@@ -114,9 +117,6 @@ bind_fell bounds.Memory h = none_is_one _ (bind_falls bounds.Memory) refl h
 frame_passed : (frames frame rest unread : List ℕ) → unread ≡ frame ++ rest → frames ++ unread ≡ (frames ++ frame) ++ rest
 frame_passed frames frame rest unread e = ap (λ (list : List ℕ). frames ++ list) e ∙ sym (append_assoc frames frame rest)
 
-not_failed : {b : Bool} → b ≡ false → b ≡ true → ⊥
-not_failed e f = cc
-
 heard_frame : (s : Stand) (e f : Engine) (seed : List ℕ) (config : Config) (before o p : Outside) → IsHeardTo s e before o → (h : HearsRequest seed config.settings e f o.left p.left) → o.reads ≤ p.reads
     → IsHeardTo (moved seed config s (Hears h.request)) f before p
 heard_frame s e f seed config before o p heard h later = record {
@@ -165,15 +165,40 @@ heard_on s t e f before o p requests heard same = record {
 -- nothing was written
 pub record SameWritten (e f : Engine) (o p : Outside) : Type 0 where
   pub held : p.held ≡ o.held
-  pub failed : f.has_failed ≡ true → e.has_failed ≡ true
+  pub same : f.has_failed ≡ e.has_failed
+  pub told : WasTold f.has_failed f.client
   pub writes : o.writes ≤ p.writes
 
-written_on : (s t : Stand) (e f : Engine) (before o p : Outside) → t.written ≡ s.written → IsWrittenTo s e before o → SameWritten e f o p → IsWrittenTo t f before p
-written_on s t e f before o p as_written written same = record {
+-- without a request in hand all answers were written whole
+pub all_whole : (b : Bool) (client : Option Client) → client ≡ None → WasTold b client → b ≡ false
+all_whole false client none h = refl
+all_whole true None none h = absurd h
+all_whole true (Some c) none h = let clash : ⊥ = cc in absurd clash
+
+untold : (b : Bool) (client : Option Client) → b ≡ false → WasTold b client
+untold false client h = tt
+untold true client h = let clash : ⊥ = cc in absurd clash
+
+told_on : (b : Bool) (c d : Client) → (is_told c.course ≡ true → is_told d.course ≡ true) → WasTold b (Some c) → WasTold b (Some d)
+told_on false c d f h = tt
+told_on true c d f h = f h
+
+-- who is told now was not told before
+says_once : (b : Bool) (c : Client) (said : Said) → need_of c ≡ needs.Say said → WasTold b (Some c) → b ≡ false
+says_once false c said needed h = refl
+says_once true c said needed h = says_nothing_more c.seed c.course said h needed
+
+told_at : (e : Engine) (c : Client) → e.client ≡ Some c → WasTold e.has_failed e.client → WasTold e.has_failed (Some c)
+told_at e c is h = subst (λ (o : Option Client). WasTold e.has_failed o) is h
+
+written_on : (s t : Stand) (e f : Engine) (before o p : Outside) → t.written ≡ s.written → t.broken ≡ s.broken → IsWrittenTo s e before o → SameWritten e f o p → IsWrittenTo t f before p
+written_on s t e f before o p as_written as_broken written same = record {
   written =
       subst (λ (l : Option (List ℕ)). Appends before.held l t.written) (sym same.held)
       (subst (Appends before.held o.held) (sym as_written) written.written);
-  failed = λ failed. let rose = written.failed (same.failed failed) in omega (arith, rose, same.writes);
+  broken = same.same ∙ written.broken ∙ sym as_broken;
+  told = same.told;
+  failed = λ b. let rose = written.failed (sym as_broken ∙ b) in omega (arith, rose, same.writes);
   writes = omega (arith, written.writes, same.writes);
 }
 
@@ -185,6 +210,14 @@ asked_on s t before d e operations falls same asked = record {
   later = subst (λ (x : Dialling). HasNotFallen before.faults x.faults) (sym same) asked.later;
 }
 
+-- the same is led and waited with
+pub account_by : (d : Daemon) (e f : Engine) (client : Option Client) (own : List Entry) → f.leads ≡ e.leads → f.ticket ≡ e.ticket → Accounts d e.leads e.ticket client own → Accounts d f.leads f.ticket client own
+account_by d e f client own leads ticket a =
+    subst (λ (ms : List ℕ). Accounts d ms f.ticket client own) (sym leads) (subst (λ (t : Option ℕ). Accounts d e.leads t client own) (sym ticket) a)
+
+account_still : (d : Daemon) (e f : Engine) (own : List Entry) → f.leads ≡ e.leads → f.ticket ≡ e.ticket → f.client ≡ e.client → Accounts d e.leads e.ticket e.client own → Accounts d f.leads f.ticket f.client own
+account_still d e f own leads ticket client a = account_by d e f f.client own leads ticket (subst (λ (x : Option Client). Accounts d e.leads e.ticket x own) (sym client) a)
+
 -- ---- turns without a request in hand
 
 pub stands_hears : (w : Company) (seed : List ℕ) (config : Config) (d : Daemon) (before : Outside) (e f : Engine) (daemon : Daemon) (o p : Outside) → Stands w seed config d before e daemon o → e.client ≡ None
@@ -195,16 +228,19 @@ stands_hears w seed config d before e f daemon o p s none h reads held writes re
     let t : Stand = moved seed config s0 (Hears h.request) in
     record {
       moves = Hears h.request ∷ s.moves;
-      may = (sym s.hand.client ∙ none, s.may);
+      may = (record { none = sym s.hand.client ∙ none; whole = sym s.written.broken ∙ all_whole e.has_failed e.client none s.written.told }, s.may);
       hand = record {
         same = s.hand.same;
         client = ap (λ (x : Engine). x.client) h.after;
         in_hand = subst (λ (x : Engine). IfSome x.client (IsInHand seed daemon)) (sym h.after) (record { salted = refl; known = begun_is_spoken daemon config.settings h.request });
       };
       heard = heard_frame s0 e f seed config before o p s.heard h reads;
-      written = written_on s0 t e f before o p refl s.written (record { held = held; failed = λ failed. absurd (not_failed (ap (λ (x : Engine). x.has_failed) h.after) failed); writes = writes });
+      written = written_on s0 t e f before o p refl refl s.written
+          (record { held = held; same = ap (λ (x : Engine). x.has_failed) h.after ∙ sym (all_whole e.has_failed e.client none s.written.told); told = untold f.has_failed f.client (ap (λ (x : Engine). x.has_failed) h.after); writes = writes });
       trace = subst (TracesOn before.trace s0) (sym readings) s.trace;
       asked = asked_on s0 t before.dialling o.dialling p.dialling refl refl dialling s.asked;
+      account = account_by daemon e f f.client t.own (ap (λ (x : Engine). x.leads) h.after) (ap (λ (x : Engine). x.ticket) h.after)
+          (account_hears daemon e.leads e.ticket (client_of seed config.settings h.request) e.client f.client t.own none (ap (λ (x : Engine). x.client) h.after) (first_holds_nothing config.settings h.request) s.account);
     }
 
 pub stands_takes : (w : Company) (seed : List ℕ) (config : Config) (d : Daemon) (before : Outside) (e f : Engine) (daemon : Daemon) (o p : Outside) → Stands w seed config d before e daemon o
@@ -221,9 +257,11 @@ stands_takes w seed config d before e f daemon o p s h reads held writes reading
         in_hand = subst (λ (x : Engine). IfSome x.client (IsInHand seed daemon)) (sym h.after) s.hand.in_hand;
       };
       heard = heard_bytes s0 e f before o p s.heard h reads;
-      written = written_on s0 s0 e f before o p refl s.written (record { held = held; failed = λ failed. sym (ap (λ (x : Engine). x.has_failed) h.after) ∙ failed; writes = writes });
+      written = written_on s0 s0 e f before o p refl refl s.written
+          (record { held = held; same = ap (λ (x : Engine). x.has_failed) h.after; told = subst (λ (x : Engine). WasTold x.has_failed x.client) (sym h.after) s.written.told; writes = writes });
       trace = subst (TracesOn before.trace s0) (sym readings) s.trace;
       asked = asked_on s0 s0 before.dialling o.dialling p.dialling refl refl dialling s.asked;
+      account = account_still daemon e f s0.own (ap (λ (x : Engine). x.leads) h.after) (ap (λ (x : Engine). x.ticket) h.after) (ap (λ (x : Engine). x.client) h.after) s.account;
     }
 
 -- ---- turns with a request in hand
@@ -234,7 +272,7 @@ pub record Quiet (o p : Outside) : Type 0 where
   pub reads : p.reads ≡ o.reads
   pub trace : p.trace ≡ o.trace
 
-in_hand_as : (seed : List ℕ) (daemon : Daemon) (e : Engine) (c : Client) → e.client ≡ Some c → IfSome e.client (IsInHand seed daemon) → IsInHand seed daemon c
+pub in_hand_as : (seed : List ℕ) (daemon : Daemon) (e : Engine) (c : Client) → e.client ≡ Some c → IfSome e.client (IsInHand seed daemon) → IsInHand seed daemon c
 in_hand_as seed daemon e c is hand = subst (λ (o : Option Client). IfSome o (IsInHand seed daemon)) is hand
 
 same_heard : (e f : Engine) (o p : Outside) → f.inbox ≡ e.inbox → f.stops ≡ e.stops → Quiet o p → SameHeard e f o p
@@ -253,9 +291,11 @@ stands_named w seed config d before e f daemon o p c about s is new quiet held w
         in_hand = subst (λ (x : Engine). IfSome x.client (IsInHand seed daemon)) (sym new) (in_hand_as seed daemon e c is s.hand.in_hand);
       };
       heard = heard_on s0 s0 e f before o p refl s.heard (same_heard e f o p (ap (λ (x : Engine). x.inbox) new) (ap (λ (x : Engine). x.stops) new) quiet);
-      written = written_on s0 s0 e f before o p refl s.written (record { held = held; failed = λ failed. sym (ap (λ (x : Engine). x.has_failed) new) ∙ failed; writes = writes });
+      written = written_on s0 s0 e f before o p refl refl s.written
+          (record { held = held; same = ap (λ (x : Engine). x.has_failed) new; told = subst (λ (x : Engine). WasTold x.has_failed x.client) (sym new) (told_at e c is s.written.told); writes = writes });
       trace = subst (TracesOn before.trace s0) (sym quiet.trace) s.trace;
       asked = asked_on s0 s0 before.dialling o.dialling p.dialling refl refl dialling s.asked;
+      account = account_still daemon e f s0.own (ap (λ (x : Engine). x.leads) new) (ap (λ (x : Engine). x.ticket) new) (ap (λ (x : Engine). x.client) new ∙ sym is) s.account;
     }
 
 pub stands_fetches : (w : Company) (seed : List ℕ) (config : Config) (d : Daemon) (before : Outside) (e f : Engine) (daemon : Daemon) (o p : Outside) (c : Client) (server : ℕ) (key : Key) → Stands w seed config d before e daemon o → e.client ≡ Some c
@@ -285,7 +325,8 @@ stands_fetches w seed config d before e f daemon o p c server key s is needed g 
         in_hand = subst (λ (x : Engine). IfSome x.client (IsInHand seed daemon)) (sym g.after) (record { salted = hand.salted; known = fetched_known daemon c.course g.fetched hand.known });
       };
       heard = heard_on s0 t e f before o p refl s.heard (same_heard e f o p (ap (λ (x : Engine). x.inbox) g.after) (ap (λ (x : Engine). x.stops) g.after) quiet);
-      written = written_on s0 t e f before o p refl s.written (record { held = held; failed = λ failed. sym (ap (λ (x : Engine). x.has_failed) g.after) ∙ failed; writes = writes });
+      written = written_on s0 t e f before o p refl refl s.written
+          (record { held = held; same = ap (λ (x : Engine). x.has_failed) g.after; told = subst (λ (x : Engine). WasTold x.has_failed x.client) (sym g.after) (told_on e.has_failed c (client_fetched c g.fetched) (told_fetched c.course g.fetched) (told_at e c is s.written.told)); writes = writes });
       trace = subst (TracesOn before.trace s0) (sym quiet.trace) s.trace;
       asked = record {
         operations = more_operations before.dialling.operations o.dialling.operations p.dialling.operations s0.operations g.lookup.asked.operations s.asked.operations g.lookup.asked.told;
@@ -293,6 +334,8 @@ stands_fetches w seed config d before e f daemon o p c server key s is needed g 
         falls = falls_more before.dialling.faults s0.falls o.dialling.faults p.dialling.faults (fetch_falls g.fetched) s.asked.falls g.lookup.later (fetch_falls_small g.fetched) (λ one. g.lookup.fallen (fetch_fell g.fetched one));
         later = fallen_later _ _ _ s.asked.later g.lookup.later;
       };
+      account = account_by daemon e f f.client t.own (ap (λ (x : Engine). x.leads) g.after) (ap (λ (x : Engine). x.ticket) g.after)
+          (account_same daemon e.leads e.ticket c (client_fetched c g.fetched) e.client f.client t.own is (ap (λ (x : Engine). x.client) g.after) (fetched_held c.course g.fetched) s.account);
     }
 
 pub stands_binds : (w : Company) (seed : List ℕ) (config : Config) (d : Daemon) (before : Outside) (e f : Engine) (daemon : Daemon) (o p : Outside) (c : Client) (server : ℕ) (dn password : List ℕ) → Stands w seed config d before e daemon o → e.client ≡ Some c
@@ -323,7 +366,8 @@ stands_binds w seed config d before e f daemon o p c server dn password s is nee
         in_hand = subst (λ (x : Engine). IfSome x.client (IsInHand seed daemon)) (sym g.after) (record { salted = hand.salted; known = bound_known c.seed daemon c.course g.bound hand.known });
       };
       heard = heard_on s0 t e f before o p refl s.heard (same_heard e f o p (ap (λ (x : Engine). x.inbox) g.after) (ap (λ (x : Engine). x.stops) g.after) quiet);
-      written = written_on s0 t e f before o p refl s.written (record { held = held; failed = λ failed. sym (ap (λ (x : Engine). x.has_failed) g.after) ∙ failed; writes = writes });
+      written = written_on s0 t e f before o p refl refl s.written
+          (record { held = held; same = ap (λ (x : Engine). x.has_failed) g.after; told = subst (λ (x : Engine). WasTold x.has_failed x.client) (sym g.after) (told_on e.has_failed c (client_bound c g.bound) (told_bound c.seed c.course g.bound) (told_at e c is s.written.told)); writes = writes });
       trace = subst (TracesOn before.trace s0) (sym quiet.trace) s.trace;
       asked = record {
         operations = more_operations before.dialling.operations o.dialling.operations p.dialling.operations s0.operations g.bind.asked.operations s.asked.operations g.bind.asked.told;
@@ -331,6 +375,8 @@ stands_binds w seed config d before e f daemon o p c server dn password s is nee
         falls = falls_more before.dialling.faults s0.falls o.dialling.faults p.dialling.faults (bind_falls g.bound) s.asked.falls g.bind.later (bind_falls_small g.bound) (λ one. g.bind.fallen (bind_fell g.bound one));
         later = fallen_later _ _ _ s.asked.later g.bind.later;
       };
+      account = account_by daemon e f f.client t.own (ap (λ (x : Engine). x.leads) g.after) (ap (λ (x : Engine). x.ticket) g.after)
+          (account_same daemon e.leads e.ticket c (client_bound c g.bound) e.client f.client t.own is (ap (λ (x : Engine). x.client) g.after) (bound_held c.seed c.course g.bound) s.account);
     }
 
 pub stands_tells : (w : Company) (seed : List ℕ) (config : Config) (d : Daemon) (before : Outside) (e f : Engine) (daemon : Daemon) (o p : Outside) (c : Client) (said : Said) → Stands w seed config d before e daemon o → e.client ≡ Some c
@@ -342,7 +388,7 @@ stands_tells w seed config d before e f daemon o p c said s is needed g quiet wr
     let hand : IsInHand seed daemon c = in_hand_as seed daemon e c is s.hand.in_hand in
     record {
       moves = move ∷ s.moves;
-      may = (record { client = c; in_hand = sym s.hand.client ∙ is; needed = needed }, s.may);
+      may = (record { client = c; in_hand = sym s.hand.client ∙ is; needed = needed; whole = sym s.written.broken ∙ says_once e.has_failed c said needed (told_at e c is s.written.told) }, s.may);
       hand = record {
         same = s.hand.same;
         client = ap (λ (x : Engine). x.client) g.after ∙ ap (option_map client_told) (sym is ∙ s.hand.client);
@@ -351,11 +397,15 @@ stands_tells w seed config d before e f daemon o p c said s is needed g quiet wr
       heard = heard_on s0 t e f before o p refl s.heard (same_heard e f o p (ap (λ (x : Engine). x.inbox) g.after) (ap (λ (x : Engine). x.stops) g.after) quiet);
       written = record {
         written = Appends-trans _ _ _ _ _ s.written.written g.written;
-        failed = λ failed. let rose = s.written.failed (sym (ap (λ (x : Engine). x.has_failed) g.after) ∙ failed) in omega (arith, rose, writes);
+        broken = ap (λ (x : Engine). x.has_failed) g.after ∙ s.written.broken;
+        told = untold f.has_failed f.client (ap (λ (x : Engine). x.has_failed) g.after ∙ says_once e.has_failed c said needed (told_at e c is s.written.told));
+        failed = λ b. let rose = s.written.failed b in omega (arith, rose, writes);
         writes = omega (arith, s.written.writes, writes);
       };
       trace = subst (TracesOn before.trace s0) (sym quiet.trace) s.trace;
       asked = asked_on s0 t before.dialling o.dialling p.dialling refl refl dialling s.asked;
+      account = account_by daemon e f f.client t.own (ap (λ (x : Engine). x.leads) g.after) (ap (λ (x : Engine). x.ticket) g.after)
+          (account_same daemon e.leads e.ticket c (client_told c) e.client f.client t.own is (ap (λ (x : Engine). x.client) g.after) (told_held c.course) s.account);
     }
 
 pub stands_breaks : (w : Company) (seed : List ℕ) (config : Config) (d : Daemon) (before : Outside) (e f : Engine) (daemon : Daemon) (o p : Outside) (c : Client) (said : Said) → Stands w seed config d before e daemon o → e.client ≡ Some c
@@ -367,7 +417,7 @@ stands_breaks w seed config d before e f daemon o p c said s is needed g quiet w
     let hand : IsInHand seed daemon c = in_hand_as seed daemon e c is s.hand.in_hand in
     record {
       moves = move ∷ s.moves;
-      may = (record { client = c; in_hand = sym s.hand.client ∙ is; needed = needed }, s.may);
+      may = (record { client = c; in_hand = sym s.hand.client ∙ is; needed = needed; whole = sym s.written.broken ∙ says_once e.has_failed c said needed (told_at e c is s.written.told) }, s.may);
       hand = record {
         same = s.hand.same;
         client = ap (λ (x : Engine). x.client) g.after ∙ ap (option_map client_told) (sym is ∙ s.hand.client);
@@ -376,16 +426,20 @@ stands_breaks w seed config d before e f daemon o p c said s is needed g quiet w
       heard = heard_on s0 t e f before o p refl s.heard (same_heard e f o p (ap (λ (x : Engine). x.inbox) g.after) (ap (λ (x : Engine). x.stops) g.after) quiet);
       written = record {
         written = Appends-trans _ _ _ _ _ s.written.written g.written.2;
-        failed = λ failed. omega (arith, g.fault, s.written.writes);
+        broken = ap (λ (x : Engine). x.has_failed) g.after;
+        told = subst (λ (x : Engine). WasTold x.has_failed x.client) (sym g.after) (told_once c.seed c.course said needed);
+        failed = λ b. omega (arith, g.fault, s.written.writes);
         writes = omega (arith, s.written.writes, writes);
       };
       trace = subst (TracesOn before.trace s0) (sym quiet.trace) s.trace;
       asked = asked_on s0 t before.dialling o.dialling p.dialling refl refl dialling s.asked;
+      account = account_by daemon e f f.client t.own (ap (λ (x : Engine). x.leads) g.after) (ap (λ (x : Engine). x.ticket) g.after)
+          (account_same daemon e.leads e.ticket c (client_told c) e.client f.client t.own is (ap (λ (x : Engine). x.client) g.after) (told_held c.course) s.account);
     }
 
 pub stands_finishes : (w : Company) (seed : List ℕ) (config : Config) (d : Daemon) (before : Outside) (e f : Engine) (daemon : Daemon) (o p : Outside) (c : Client) → Stands w seed config d before e daemon o → e.client ≡ Some c
-    → need_of c ≡ needs.End → f ≡ done e → Quiet o p → p.held ≡ o.held → o.writes ≤ p.writes → p.dialling ≡ o.dialling → Stands w seed config d before f daemon p
-stands_finishes w seed config d before e f daemon o p c s is needed new quiet held writes dialling =
+    → need_of c ≡ needs.End → e.has_failed ≡ false → f ≡ done e → Quiet o p → p.held ≡ o.held → o.writes ≤ p.writes → p.dialling ≡ o.dialling → Stands w seed config d before f daemon p
+stands_finishes w seed config d before e f daemon o p c s is needed fine new quiet held writes dialling =
     let s0 : Stand = stand_after seed config d s.moves in
     let t : Stand = moved seed config s0 Finishes in
     record {
@@ -397,9 +451,12 @@ stands_finishes w seed config d before e f daemon o p c s is needed new quiet he
         in_hand = subst (λ (x : Engine). IfSome x.client (IsInHand seed daemon)) (sym new) tt;
       };
       heard = heard_on s0 t e f before o p refl s.heard (same_heard e f o p (ap (λ (x : Engine). x.inbox) new) (ap (λ (x : Engine). x.stops) new) quiet);
-      written = written_on s0 t e f before o p refl s.written (record { held = held; failed = λ failed. sym (ap (λ (x : Engine). x.has_failed) new) ∙ failed; writes = writes });
+      written = written_on s0 t e f before o p refl refl s.written
+          (record { held = held; same = ap (λ (x : Engine). x.has_failed) new; told = untold f.has_failed f.client (ap (λ (x : Engine). x.has_failed) new ∙ fine); writes = writes });
       trace = subst (TracesOn before.trace s0) (sym quiet.trace) s.trace;
       asked = asked_on s0 t before.dialling o.dialling p.dialling refl refl dialling s.asked;
+      account = account_by daemon e f f.client t.own (ap (λ (x : Engine). x.leads) new) (ap (λ (x : Engine). x.ticket) new)
+          (account_over daemon e.leads e.ticket c e.client f.client t.own is (ap (λ (x : Engine). x.client) new) (over_holds_nothing c.seed c.course needed) s.account);
     }
 
 -- ---- steps
@@ -431,13 +488,41 @@ traces_step w before o p s daemon daemon' event gave traces m = (
 same_outside : (e f : Engine) (o p : Outside) → f.inbox ≡ e.inbox → f.stops ≡ e.stops → p ≡ record o { trace = p.trace } → SameHeard e f o p
 same_outside e f o p inbox stops same = record { inbox = inbox; stops = stops; left = ap (λ (x : Outside). x.left) same; reads = ap (λ (x : Outside). x.reads) same }
 
-unwritten : (e f : Engine) (o p : Outside) → f.has_failed ≡ e.has_failed → p ≡ record o { trace = p.trace } → SameWritten e f o p
-unwritten e f o p fails same = record { held = ap (λ (x : Outside). x.held) same; failed = λ failed. sym fails ∙ failed; writes = subst (λ (x : Outside). o.writes ≤ x.writes) (sym same) (omega arith) }
+unwritten : (e f : Engine) (o p : Outside) → f.has_failed ≡ e.has_failed → WasTold f.has_failed f.client → p ≡ record o { trace = p.trace } → SameWritten e f o p
+unwritten e f o p fails told same = record { held = ap (λ (x : Outside). x.held) same; same = fails; told = told; writes = subst (λ (x : Outside). o.writes ≤ x.writes) (sym same) (omega arith) }
+
+-- what is led and gone on with after a step, by what the reply says
+pub led_by_step : (d daemon' : Daemon) (now : ℕ) (event : Event) (e f : Engine) (gave : Given) (client : Option Client) (own : List Entry) → daemon' ≡ after d now event → gave ≡ given d now event → e.about ≡ about event
+    → f.leads ≡ leads_after e.leads e.about gave.reply → f.ticket ≡ ticket_after e.ticket gave.reply
+    → Accounts (after d now event) (leads_after e.leads (about event) (entry_made d now event).reply) (ticket_after e.ticket (entry_made d now event).reply) client own → Accounts daemon' f.leads f.ticket client own
+led_by_step d daemon' now event e f gave client own made gives about_it leads ticket a =
+    subst (λ (x : Daemon). Accounts x f.leads f.ticket client own) (sym made)
+    (subst (λ (ms : List ℕ). Accounts (after d now event) ms f.ticket client own)
+    (sym (leads ∙ (ap (λ (g : Given). leads_after e.leads e.about g.reply) gives ∙ ap (λ (o : Option ℕ). leads_after e.leads o (entry_made d now event).reply) about_it)))
+    (subst (λ (t : Option ℕ). Accounts (after d now event) (leads_after e.leads (about event) (entry_made d now event).reply) t client own)
+    (sym (ticket ∙ ap (λ (g : Given). ticket_after e.ticket g.reply) gives)) a))
+
+-- the same over the journal that was found
+pub step_account : (w : Company) (daemon daemon' : Daemon) (e : Engine) (before later : Trace) (c : Client) (event : Event) (gave : Given) (own : List Entry) → e.client ≡ Some c → event_of (need_of c) ≡ Some event
+    → (m : IsMade w daemon event gave daemon' before later) → Reaches daemon m.found → is_steppable m.found.past event ≡ true → holds_order c.course ≡ true → Accounts daemon e.leads e.ticket e.client own
+    → Accounts (after m.found m.now event) (leads_after e.leads (about event) (entry_made m.found m.now event).reply) (ticket_after e.ticket (entry_made m.found m.now event).reply) (Some (client_replied c (given m.found m.now event)))
+    (own ++ entry_made m.found m.now event ∷ [])
+step_account w daemon daemon' e before later c event gave own is needed m to may order a =
+    account_steps m.found m.now event c e.leads e.ticket own may m.kept.orderly needed order
+    (subst (λ (x : Option Client). Accounts m.found e.leads e.ticket x own) is (account_reached daemon m.found e.leads e.ticket e.client own to a))
+
+accounted : (w : Company) (seed : List ℕ) (daemon daemon' : Daemon) (e f : Engine) (before later : Trace) (c : Client) (event : Event) (gave : Given) (own : List Entry) → e.client ≡ Some c → event_of (need_of c) ≡ Some event → e.about ≡ about event
+    → (m : IsMade w daemon event gave daemon' before later) → Reaches daemon m.found → is_steppable m.found.past event ≡ true → holds_order c.course ≡ true → Accounts daemon e.leads e.ticket e.client own
+    → f.leads ≡ leads_after e.leads e.about gave.reply → f.ticket ≡ ticket_after e.ticket gave.reply → f.client ≡ Some (client_replied c gave) → Accounts daemon' f.leads f.ticket f.client (own ++ entry_made m.found m.now event ∷ [])
+accounted w seed daemon daemon' e f before later c event gave own is needed about_it m to may order a leads ticket client =
+    subst (λ (x : Option Client). Accounts daemon' f.leads f.ticket x (own ++ entry_made m.found m.now event ∷ [])) (sym (client ∙ ap (λ (g : Given). Some (client_replied c g)) m.gives))
+    (led_by_step m.found daemon' m.now event e f gave (Some (client_replied c (given m.found m.now event))) (own ++ entry_made m.found m.now event ∷ []) m.made m.gives about_it leads ticket
+    (step_account w daemon daemon' e before later c event gave own is needed m to may order a))
 
 pub stands_steps : (w : Company) (seed : List ℕ) (config : Config) (d : Daemon) (before : Outside) (e f : Engine) (daemon daemon' : Daemon) (o p : Outside) (c : Client) (event : Event) (gave : Given) → Stands w seed config d before e daemon o → e.client ≡ Some c
-    → event_of (need_of c) ≡ Some event → (m : IsMade w daemon event gave daemon' o.trace p.trace) → is_steppable m.found.past event ≡ true → IsSpoken daemon' (client_replied c gave).course → f ≡ replied e c gave
+    → event_of (need_of c) ≡ Some event → e.about ≡ about event → (m : IsMade w daemon event gave daemon' o.trace p.trace) → Reaches daemon m.found → is_steppable m.found.past event ≡ true → IsSpoken daemon' (client_replied c gave).course → f ≡ replied e c gave
     → p ≡ record o { trace = p.trace } → Stands w seed config d before f daemon' p
-stands_steps w seed config d before e f daemon daemon' o p c event gave s is needed m may known new same =
+stands_steps w seed config d before e f daemon daemon' o p c event gave s is needed about_it m to may known new same =
     let s0 : Stand = stand_after seed config d s.moves in
     let t : Stand = moved seed config (moved seed config s0 (Finds m.found)) (Steps m.now event) in
     let hand : IsInHand seed daemon c = in_hand_as seed daemon e c is s.hand.in_hand in
@@ -450,9 +535,12 @@ stands_steps w seed config d before e f daemon daemon' o p c event gave s is nee
         in_hand = subst (λ (x : Engine). IfSome x.client (IsInHand seed daemon')) (sym new) (record { salted = hand.salted; known = known });
       };
       heard = heard_on s0 t e f before o p refl s.heard (same_outside e f o p (ap (λ (x : Engine). x.inbox) new) (ap (λ (x : Engine). x.stops) new) same);
-      written = written_on s0 t e f before o p refl s.written (unwritten e f o p (ap (λ (x : Engine). x.has_failed) new) same);
+      written = written_on s0 t e f before o p refl refl s.written
+          (unwritten e f o p (ap (λ (x : Engine). x.has_failed) new) (subst (λ (x : Engine). WasTold x.has_failed x.client) (sym new) (told_on e.has_failed c (client_replied c gave) (told_replied c.seed c.course gave) (told_at e c is s.written.told))) same);
       trace = traces_step w before.trace o.trace p.trace s0 daemon daemon' event gave s.trace m;
       asked = asked_on s0 t before.dialling o.dialling p.dialling refl refl (ap (λ (x : Outside). x.dialling) same) s.asked;
+      account = accounted w seed daemon daemon' e f o.trace p.trace c event gave s0.own is needed about_it m to may hand.known.order s.account
+          (ap (λ (x : Engine). x.leads) new) (ap (λ (x : Engine). x.ticket) new) (ap (λ (x : Engine). x.client) new);
     }
 
 knows_now : (seed : List ℕ) (daemon daemon' : Daemon) (x : Option Client) → IfSome x (IsInHand seed daemon) → ((c : Client) → x ≡ Some c → IsSpoken daemon' c.course) → IfSome x (IsInHand seed daemon')
@@ -461,8 +549,8 @@ knows_now seed daemon daemon' (Some c) h knows = record { salted = h.salted; kno
 
 -- a step that is not made yet: the clock was read, over the daemon that was found
 pub stands_waits : (w : Company) (seed : List ℕ) (config : Config) (d : Daemon) (before : Outside) (e : Engine) (daemon daemon' : Daemon) (o p : Outside) (event : Event) → Stands w seed config d before e daemon o
-    → (r : IsWaited w daemon daemon' o.trace p.trace) → ((c : Client) → e.client ≡ Some c → IsSpoken daemon' c.course) → p ≡ record o { trace = p.trace } → Stands w seed config d before e daemon' p
-stands_waits w seed config d before e daemon daemon' o p event s r known same =
+    → (r : IsWaited w daemon daemon' o.trace p.trace) → Reaches daemon daemon' → ((c : Client) → e.client ≡ Some c → IsSpoken daemon' c.course) → p ≡ record o { trace = p.trace } → Stands w seed config d before e daemon' p
+stands_waits w seed config d before e daemon daemon' o p event s r to known same =
     let s0 : Stand = stand_after seed config d s.moves in
     let t : Stand = moved seed config (moved seed config s0 (Finds daemon')) (Refuses r.now) in
     record {
@@ -470,18 +558,19 @@ stands_waits w seed config d before e daemon daemon' o p event s r known same =
       may = (tt, (subst (λ (x : Daemon). w.others x daemon') s.hand.same r.others, s.may));
       hand = record { same = refl; client = s.hand.client; in_hand = knows_now seed daemon daemon' e.client s.hand.in_hand known };
       heard = heard_on s0 t e e before o p refl s.heard (same_outside e e o p refl refl same);
-      written = written_on s0 t e e before o p refl s.written (unwritten e e o p refl same);
+      written = written_on s0 t e e before o p refl refl s.written (unwritten e e o p refl s.written.told same);
       trace = (
         reads_more before.trace.readings o.trace.readings p.trace.readings s0.moments r.now s.trace.0 r.read,
         r.entries ∙ s.trace.1,
       );
       asked = asked_on s0 t before.dialling o.dialling p.dialling refl refl (ap (λ (x : Outside). x.dialling) same) s.asked;
+      account = account_reached daemon daemon' e.leads e.ticket e.client s0.own to s.account;
     }
 
 -- the daemon is found as others left it
 pub stands_finds : (w : Company) (seed : List ℕ) (config : Config) (d : Daemon) (before : Outside) (e : Engine) (daemon daemon' : Daemon) (o p : Outside) → Stands w seed config d before e daemon o
-    → w.others daemon daemon' → ((c : Client) → e.client ≡ Some c → IsSpoken daemon' c.course) → p ≡ o → Stands w seed config d before e daemon' p
-stands_finds w seed config d before e daemon daemon' o p s others known same =
+    → w.others daemon daemon' → Reaches daemon daemon' → ((c : Client) → e.client ≡ Some c → IsSpoken daemon' c.course) → p ≡ o → Stands w seed config d before e daemon' p
+stands_finds w seed config d before e daemon daemon' o p s others to known same =
     let s0 : Stand = stand_after seed config d s.moves in
     let t : Stand = moved seed config s0 (Finds daemon') in
     subst (λ (x : Outside). Stands w seed config d before e daemon' x) (sym same)
@@ -490,7 +579,8 @@ stands_finds w seed config d before e daemon daemon' o p s others known same =
       may = (subst (λ (x : Daemon). w.others x daemon') s.hand.same others, s.may);
       hand = record { same = refl; client = s.hand.client; in_hand = knows_now seed daemon daemon' e.client s.hand.in_hand known };
       heard = heard_on s0 t e e before o o refl s.heard (record { inbox = refl; stops = refl; left = refl; reads = refl });
-      written = written_on s0 t e e before o o refl s.written (record { held = refl; failed = λ failed. failed; writes = omega arith });
+      written = written_on s0 t e e before o o refl refl s.written (record { held = refl; same = refl; told = s.written.told; writes = omega arith });
       trace = s.trace;
       asked = asked_on s0 t before.dialling o.dialling o.dialling refl refl refl s.asked;
+      account = account_reached daemon daemon' e.leads e.ticket e.client s0.own to s.account;
     })

@@ -1,15 +1,12 @@
 -- A turn of the engine, by what it says of itself.
-use Rattle.std.proofs.Common.{◌≡◌, ◌∙◌, ◌⊎◌, ℕ, ◌≤◌, true, false, List, [], Option, Some, None, refl, sym, ap, subst, inl, inr, append-nil, arith}
+use Rattle.std.proofs.Common.{◌≡◌, ◌∙◌, ℕ, ◌≤◌, true, List, [], Option, Some, None, refl, sym, ap, subst, inl, inr, append-nil, arith}
 use Rattle.std.specs.Prelude.{IfSome, IsSome, is_some}
 use Rattle.sd_base.specs.Causes.{Rose}
 use Rattle.sd_rules.specs.declared.events.Event.{Event}
 use Rattle.sd_rules.specs.declared.events.Event.TheVariants as events
 use Rattle.sd_rules.specs.declared.keys.Key.{Key}
-use Rattle.sd_rules.specs.declared.tasks.Bound.TheVariants as bounds
-use Rattle.sd_rules.specs.declared.tasks.Fetched.TheVariants as fetches
 use Rattle.sd_rules.specs.declared.tasks.Need.{Need}
 use Rattle.sd_rules.specs.declared.tasks.Need.TheVariants as needs
-use Rattle.sd_rules.specs.declared.tasks.Said.{Said}
 use Rattle.sd_rules.specs.Scripts.{is_need_of_kind, key_at}
 use Rattle.sd_rules.specs.Steps.{Daemon}
 use Rattle.sd_conf.specs.declared.config.Config.{Config}
@@ -17,8 +14,8 @@ use Rattle.sd_dial.specs.Entries.{Behind}
 use Rattle.sd_dial.specs.Operations.{Operation}
 use Rattle.sd_inquiry.specs.Counting.{HasNotFallen}
 use Rattle.sd_inquiry.specs.Lookups.{with_operations}
-use Rattle.sd_course.specs.Courses.{Client, need_of, event_of, script_at, client_told}
-use Rattle.sd_session.specs.Sessions.{Company, Trace}
+use Rattle.sd_course.specs.Courses.{Client, need_of, event_of, script_at}
+use Rattle.sd_session.specs.Sessions.{Company, Trace, stand_after}
 use Rattle.sd_session.specs.Spoken.{IsSpoken}
 use Rattle.sd_engine.specs.declared.ending.SessionEnd.{SessionEnd}
 use Rattle.sd_engine.specs.declared.ending.SessionEnd.TheVariants as ends
@@ -26,8 +23,8 @@ use Rattle.sd_engine.specs.declared.engine.Turn.{Turn}
 use Rattle.sd_engine.specs.declared.engine.Turn.TheVariants.{Again, Step, Collect, Ended}
 use Rattle.sd_engine.specs.Engines.{Engine, awaiting, done}
 use Rattle.sd_engine.specs.Leading.{about}
-use Rattle.sd_engine.specs.Turns.{Dialling, Hears, Serves, ServesBy, Acts, Says, IsNamed, LooksUp, BindsAt, IsFinished, IsIdle, IsOfKind, Fetches, Binds}
-use Rattle.sd_session.specs.Running.{Outside, Awaits, GoesOn, EndsIn, Turned, outside_at}
+use Rattle.sd_engine.specs.Turns.{Dialling, KeepsLeads, Hears, Serves, ServesBy, IsOfKind}
+use Rattle.sd_session.specs.Running.{AskedLast, Stands, Outside, Awaits, GoesOn, EndsIn, Turned, outside_at}
 use Rattle.sd_session.proofs.Standing.{Quiet, stands_hears, stands_takes, stands_named, stands_fetches, stands_binds, stands_tells, stands_breaks, stands_finishes}
 use Rattle.sd_session.proofs.Ending.{Leaves, ran_hearing, ran_stopped, ran_write_fault, ran_starved}
 
@@ -60,7 +57,7 @@ by_need w seed config e f daemon o p c (needs.Say said) is n h quiet writes = λ
 ]
 by_need w seed config e f daemon o p c (needs.Fetch server key) is n h quiet writes = λ d before s. stands_fetches w seed config d before e f daemon o p c server key s is n h.0 quiet h.1 writes
 by_need w seed config e f daemon o p c (needs.Bind server dn password) is n h quiet writes = λ d before s. stands_binds w seed config d before e f daemon o p c server dn password s is n h.0 quiet h.1 writes
-by_need w seed config e f daemon o p c needs.End is n h quiet writes = λ d before s. stands_finishes w seed config d before e f daemon o p c s is n h.0.0.2 quiet h.1 writes h.0.1
+by_need w seed config e f daemon o p c needs.End is n h quiet writes = λ d before s. stands_finishes w seed config d before e f daemon o p c s is n h.0.0.1 h.0.0.2 quiet h.1 writes h.0.1
 by_need w seed config e f daemon o p c (needs.Step event) is n h quiet writes = absurd h.0.0
 by_need w seed config e f daemon o p c (needs.Await ticket) is n h quiet writes = absurd h.0.0
 
@@ -80,10 +77,10 @@ leaves_by : (e : Engine) (o p : Outside) → p.held ≡ o.held → Outer e o p �
 leaves_by e o p held outer = record { held = held; trace = outer.trace; reads = outer.reads; writes = outer.writes }
 
 pub ended_hears : (w : Company) (seed : List ℕ) (config : Config) (ending : SessionEnd) (e f : Engine) (daemon : Daemon) (o p : Outside) → e.client ≡ None → Hears seed config.settings (Ended ending) e f o.left p.left (Rose o.reads p.reads) → Outer e o p
-    → EndsIn w seed config ending e daemon o daemon p
+    → EndsIn w seed config ending e daemon o f daemon p
 ended_hears w seed config ending e f daemon o p none h outer = λ d before s.
     let m = outer.mute none in
-    ran_hearing w seed config d before ending e daemon o p s none (leaves_by e o p m.0 outer) m.1 h.0
+    ran_hearing w seed config d before ending e f daemon o p s none h.1 (leaves_by e o p m.0 outer) m.1 h.0
 
 pub nothing_more : (known : Option (List Operation)) → known ≡ with_operations known []
 nothing_more None = refl
@@ -95,35 +92,32 @@ same_end d e same = subst (λ (x : Dialling). HasNotFallen d.faults x.faults) (s
 same_asked : (d e : Dialling) → e ≡ d → e.operations ≡ with_operations d.operations []
 same_asked d e same = ap (λ (x : Dialling). x.operations) same ∙ nothing_more d.operations
 
-starved : (w : Company) (seed : List ℕ) (config : Config) (e : Engine) (daemon : Daemon) (o p : Outside) (more : List Operation) → p.held ≡ o.held → Quiet o p → Outer e o p → HasNotFallen o.dialling.faults p.dialling.faults
-    → p.dialling.operations ≡ with_operations o.dialling.operations more → EndsIn w seed config ends.Memory e daemon o daemon p
-starved w seed config e daemon o p more held quiet outer later asked = λ d before s.
-    ran_starved w seed config d before e daemon o p more s (leaves_by e o p held outer) quiet.left later asked
+starved : (w : Company) (seed : List ℕ) (config : Config) (e f : Engine) (daemon : Daemon) (o p : Outside) (more : List Operation) → ((d : Daemon) (before : Outside) (s : Stands w seed config d before e daemon o) → AskedLast config (stand_after seed config d s.moves) more) → KeepsLeads (done e) f → p.held ≡ o.held → Quiet o p → Outer e o p → HasNotFallen o.dialling.faults p.dialling.faults
+    → p.dialling.operations ≡ with_operations o.dialling.operations more → EndsIn w seed config ends.Memory e daemon o f daemon p
+starved w seed config e f daemon o p more last keeps held quiet outer later asked = λ d before s.
+    ran_starved w seed config d before e f daemon o p more s (last d before s) keeps.leads keeps.ticket (leaves_by e o p held outer) quiet.left later asked
 
-starved_idle : (w : Company) (seed : List ℕ) (config : Config) (e : Engine) (daemon : Daemon) (o p : Outside) → p.held ≡ o.held → p.dialling ≡ o.dialling → Quiet o p → Outer e o p → EndsIn w seed config ends.Memory e daemon o daemon p
-starved_idle w seed config e daemon o p held dialling quiet outer =
-    starved w seed config e daemon o p [] held quiet outer (same_end o.dialling p.dialling dialling) (same_asked o.dialling p.dialling dialling)
-
-finished : (w : Company) (seed : List ℕ) (config : Config) (e f : Engine) (daemon : Daemon) (o p : Outside) (c : Client) → e.client ≡ Some c → need_of c ≡ needs.End → f ≡ done e → Quiet o p → p.held ≡ o.held → o.writes ≤ p.writes → p.dialling ≡ o.dialling
-    → GoesOn w seed config e daemon o f daemon p
-finished w seed config e f daemon o p c is n new quiet held writes dialling = λ d before s. stands_finishes w seed config d before e f daemon o p c s is n new quiet held writes dialling
+starved_idle : (w : Company) (seed : List ℕ) (config : Config) (e f : Engine) (daemon : Daemon) (o p : Outside) → KeepsLeads (done e) f → p.held ≡ o.held → p.dialling ≡ o.dialling → Quiet o p → Outer e o p → EndsIn w seed config ends.Memory e daemon o f daemon p
+starved_idle w seed config e f daemon o p keeps held dialling quiet outer =
+    starved w seed config e f daemon o p [] (λ d before s. inl refl) keeps held quiet outer (same_end o.dialling p.dialling dialling) (same_asked o.dialling p.dialling dialling)
 
 ended_by : (w : Company) (seed : List ℕ) (config : Config) (ending : SessionEnd) (e f : Engine) (daemon : Daemon) (o p : Outside) (c : Client) (need : Need) → e.client ≡ Some c → need_of c ≡ need
-    → ServesBy config.pwfield config (Ended ending) need (done e) c f o.held p.held (Rose o.writes p.writes) o.dialling p.dialling → Quiet o p → Outer e o p → EndsIn w seed config ending e daemon o daemon p
-ended_by w seed config ends.Memory e f daemon o p c (needs.Say said) is n h quiet outer = starved_idle w seed config e daemon o p h.0.1 h.1 quiet outer
-ended_by w seed config ends.Memory e f daemon o p c (needs.Step event) is n h quiet outer = starved_idle w seed config e daemon o p h.1 h.0.1 quiet outer
-ended_by w seed config ends.Memory e f daemon o p c (needs.Await ticket) is n h quiet outer = starved_idle w seed config e daemon o p h.1 h.0.1 quiet outer
+    → ServesBy config.pwfield config (Ended ending) need (done e) c f o.held p.held (Rose o.writes p.writes) o.dialling p.dialling → Quiet o p → Outer e o p → EndsIn w seed config ending e daemon o f daemon p
+ended_by w seed config ends.Memory e f daemon o p c (needs.Say said) is n h quiet outer = starved_idle w seed config e f daemon o p h.0.0 h.0.1 h.1 quiet outer
+ended_by w seed config ends.Memory e f daemon o p c (needs.Step event) is n h quiet outer = starved_idle w seed config e f daemon o p h.0.0 h.1 h.0.1 quiet outer
+ended_by w seed config ends.Memory e f daemon o p c (needs.Await ticket) is n h quiet outer = starved_idle w seed config e f daemon o p h.0.0 h.1 h.0.1 quiet outer
 ended_by w seed config ends.Memory e f daemon o p c (needs.Fetch server key) is n h quiet outer =
-    starved w seed config e daemon o p h.0.1.asked.operations h.1 quiet outer h.0.1.later h.0.1.asked.told
+    starved w seed config e f daemon o p h.0.1.asked.operations
+    (λ d before s. inr (inl (record { client = c; in_hand = sym s.hand.client ∙ is; server = server; key = key; needed = n; asked = h.0.1.asked.are }))) h.0.0 h.1 quiet outer h.0.1.later h.0.1.asked.told
 ended_by w seed config ends.Memory e f daemon o p c (needs.Bind server dn password) is n h quiet outer =
-    starved w seed config e daemon o p h.0.1.asked.operations h.1 quiet outer h.0.1.later h.0.1.asked.told
+    starved w seed config e f daemon o p h.0.1.asked.operations
+    (λ d before s. inr (inr (record { client = c; in_hand = sym s.hand.client ∙ is; server = server; dn = dn; password = password; needed = n; asked = h.0.1.asked.are }))) h.0.0 h.1 quiet outer h.0.1.later h.0.1.asked.told
 ended_by w seed config ends.Memory e f daemon o p c needs.End is n h quiet outer = absurd h.0.0
 ended_by w seed config ends.Stopped e f daemon o p c needs.End is n h quiet outer = λ d before s.
-    let t = stands_finishes w seed config d before e f daemon o p c s is n h.0.0.2 quiet h.1 outer.writes h.0.1 in
+    let t = stands_finishes w seed config d before e f daemon o p c s is n h.0.0.1 h.0.0.2 quiet h.1 outer.writes h.0.1 in
     ran_stopped w seed config d before f daemon p t (ap (λ (x : Engine). x.client) h.0.0.2) (ap (λ (x : Engine). x.stops) h.0.0.2 ∙ h.0.0.0)
 ended_by w seed config ends.WriteFault e f daemon o p c needs.End is n h quiet outer = λ d before s.
-    let t = stands_finishes w seed config d before e f daemon o p c s is n h.0.0.1 quiet h.1 outer.writes h.0.1 in
-    ran_write_fault w seed config d before f daemon p t (ap (λ (x : Engine). x.client) h.0.0.1) (ap (λ (x : Engine). x.has_failed) h.0.0.1 ∙ h.0.0.0)
+    ran_write_fault w seed config d before e f daemon o p c s is n h.0.0.0 h.0.0.1 (leaves_by e o p h.1 outer) quiet.left h.0.1
 ended_by w seed config ends.Stopped e f daemon o p c (needs.Say said) is n h quiet outer = absurd h.0
 ended_by w seed config ends.Stopped e f daemon o p c (needs.Step event) is n h quiet outer = absurd h.0.0
 ended_by w seed config ends.Stopped e f daemon o p c (needs.Await ticket) is n h quiet outer = absurd h.0.0
@@ -172,13 +166,13 @@ ended_by w seed config (ends.JournalFull count) e f daemon o p c (needs.Bind ser
 ended_by w seed config (ends.JournalFull count) e f daemon o p c needs.End is n h quiet outer = absurd h.0.0
 
 pub ended_serves : (w : Company) (seed : List ℕ) (config : Config) (ending : SessionEnd) (e f : Engine) (daemon : Daemon) (o p : Outside) (c : Client) → e.client ≡ Some c → Serves config (Ended ending) (done e) c f o.held p.held (Rose o.writes p.writes) o.dialling p.dialling
-    → Outer e o p → EndsIn w seed config ending e daemon o daemon p
+    → Outer e o p → EndsIn w seed config ending e daemon o f daemon p
 ended_serves w seed config ending e f daemon o p c is h outer = elim h [
   | inl served ↦ ended_by w seed config ending e f daemon o p c (need_of c) is refl served (quiet_by e o p c is outer) outer
   | inr idle ↦
       let memory : ends.Memory ≡ ending = same_ending ending idle.ended in
-      subst (λ (end : SessionEnd). EndsIn w seed config end e daemon o daemon p) memory
-      (starved_idle w seed config e daemon o p idle.written idle.asked (quiet_by e o p c is outer) outer)
+      subst (λ (end : SessionEnd). EndsIn w seed config end e daemon o f daemon p) memory
+      (starved_idle w seed config e f daemon o p idle.leads idle.written idle.asked (quiet_by e o p c is outer) outer)
 ]
   where
     same_ending : (end : SessionEnd) → Ended end ≡ Ended ends.Memory → ends.Memory ≡ end
@@ -192,8 +186,8 @@ pub record Named (w : Company) (seed : List ℕ) (config : Config) (e f : Engine
   pub awaits : Awaits daemon f event
 
 named_by : (w : Company) (seed : List ℕ) (config : Config) (e f : Engine) (daemon : Daemon) (o p : Outside) (c : Client) (number : Option ℕ) (event : Event) → e.client ≡ Some c → event_of (need_of c) ≡ Some event
-    → is_need_of_kind (key_at (script_at c)) (need_of c) ≡ true → IsSpoken daemon c.course → f ≡ awaiting e c number → Quiet o p → p.held ≡ o.held → o.writes ≤ p.writes → p.dialling ≡ o.dialling → Named w seed config e f daemon o p event
-named_by w seed config e f daemon o p c number event is needed kind known new quiet held writes dialling = record {
+    → is_need_of_kind (key_at (script_at c)) (need_of c) ≡ true → IsSpoken daemon c.course → f ≡ awaiting e c number → number ≡ about event → Quiet o p → p.held ≡ o.held → o.writes ≤ p.writes → p.dialling ≡ o.dialling → Named w seed config e f daemon o p event
+named_by w seed config e f daemon o p c number event is needed kind known new of quiet held writes dialling = record {
   goes_on = λ d before s. stands_named w seed config d before e f daemon o p c number s is new quiet held writes dialling;
   awaits = record {
     client = c;
@@ -202,6 +196,7 @@ named_by w seed config e f daemon o p c number event is needed kind known new qu
     kind = kind;
     known = known;
     ready = ap (λ (x : Engine). x.is_ready) new;
+    about_it = ap (λ (x : Engine). x.about) new ∙ of;
   };
 }
 
@@ -223,7 +218,7 @@ step_by : (w : Company) (seed : List ℕ) (config : Config) (e f : Engine) (daem
 step_by w seed config e f daemon o p c event (needs.Step other) is n h kind known outer =
     let same : event ≡ other = same_event event other h.0.0.0 in
     let needed : need_of c ≡ needs.Step event = n ∙ ap needs.Step (sym same) in
-    named_by w seed config e f daemon o p c (about other) event is (ap event_of needed) (subst (λ (m : Need). is_need_of_kind (key_at (script_at c)) m ≡ true) (sym needed) kind) known h.0.0.1 (quiet_by e o p c is outer) h.1 outer.writes h.0.1
+    named_by w seed config e f daemon o p c (about other) event is (ap event_of needed) (subst (λ (m : Need). is_need_of_kind (key_at (script_at c)) m ≡ true) (sym needed) kind) known h.0.0.1 (ap about (sym same)) (quiet_by e o p c is outer) h.1 outer.writes h.0.1
 step_by w seed config e f daemon o p c event (needs.Await ticket) is n h kind known outer = absurd (no_step event ticket h.0.0.0)
 step_by w seed config e f daemon o p c event (needs.Fetch server key) is n h kind known outer = absurd h.0
 step_by w seed config e f daemon o p c event (needs.Bind server dn password) is n h kind known outer = absurd h.0
@@ -240,7 +235,7 @@ collect_by w seed config e f daemon o p c ticket (needs.Await other) is n h know
     let same : ticket ≡ other = same_ticket ticket other h.0.0.0 in
     let needed : need_of c ≡ needs.Await ticket = n ∙ ap needs.Await (sym same) in
     named_by w seed config e f daemon o p c None (events.Collect ticket) is (ap event_of needed)
-    (subst (λ (m : Need). is_need_of_kind (key_at (script_at c)) m ≡ true) (sym needed) (waits_of_kind (key_at (script_at c)) ticket)) known h.0.0.1 (quiet_by e o p c is outer) h.1 outer.writes h.0.1
+    (subst (λ (m : Need). is_need_of_kind (key_at (script_at c)) m ≡ true) (sym needed) (waits_of_kind (key_at (script_at c)) ticket)) known h.0.0.1 refl (quiet_by e o p c is outer) h.1 outer.writes h.0.1
 collect_by w seed config e f daemon o p c ticket (needs.Step event) is n h known outer = absurd (no_collect event ticket h.0.0.0)
 collect_by w seed config e f daemon o p c ticket (needs.Fetch server key) is n h known outer = absurd h.0
 collect_by w seed config e f daemon o p c ticket (needs.Bind server dn password) is n h known outer = absurd h.0
@@ -276,9 +271,9 @@ turn_again w seed config e f daemon o p t =
     (λ none h. again_hears w seed config e f daemon o p none (t.hears none) t.outer)
     (λ c is h. again_serves w seed config e f daemon o p c is h t.outer)
 
-pub turn_ended : (w : Company) (seed : List ℕ) (config : Config) (ending : SessionEnd) (e f : Engine) (daemon : Daemon) (o p : Outside) → Told seed config (Ended ending) e f o p → EndsIn w seed config ending e daemon o daemon p
+pub turn_ended : (w : Company) (seed : List ℕ) (config : Config) (ending : SessionEnd) (e f : Engine) (daemon : Daemon) (o p : Outside) → Told seed config (Ended ending) e f o p → EndsIn w seed config ending e daemon o f daemon p
 turn_ended w seed config ending e f daemon o p t =
-    by_client e (λ x. IfSome x (λ c. Serves config (Ended ending) (done e) c f o.held p.held (Rose o.writes p.writes) o.dialling p.dialling)) (EndsIn w seed config ending e daemon o daemon p) t.serves
+    by_client e (λ x. IfSome x (λ c. Serves config (Ended ending) (done e) c f o.held p.held (Rose o.writes p.writes) o.dialling p.dialling)) (EndsIn w seed config ending e daemon o f daemon p) t.serves
     (λ none h. ended_hears w seed config ending e f daemon o p none (t.hears none) t.outer)
     (λ c is h. ended_serves w seed config ending e f daemon o p c is h t.outer)
 

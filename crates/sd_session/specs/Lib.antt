@@ -1,4 +1,6 @@
 pub mod Spoken
+pub mod Holding
+pub mod Closing
 pub mod Sessions
 pub mod Stepping
 pub mod Running

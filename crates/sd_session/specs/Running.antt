@@ -1,5 +1,5 @@
 -- Where a session stands between its turns, and how it ends.
-use Rattle.std.specs.Prelude.{◌≡◌, ◌≢◌, ℕ, ◌≤◌, true, List, [], ◌++◌, length, Option, Some, None, IfSome}
+use Rattle.std.specs.Prelude.{◌≡◌, ◌≢◌, ◌⊎◌, ℕ, ◌≤◌, Bool, true, false, List, [], ◌++◌, length, Option, Some, None, IfSome}
 use Rattle.std.specs.Io.KnownBytes.{Appends, Consumes, IsAtEnd}
 use Rattle.sd_base.specs.Causes.{Rose}
 use Rattle.sd_rules.specs.declared.events.Event.{Event}
@@ -7,10 +7,14 @@ use Rattle.sd_rules.specs.declared.replies.Entry.{Entry}
 use Rattle.sd_rules.specs.declared.replies.Given.{Given}
 use Rattle.sd_rules.specs.Steps.{Daemon, is_full, full_count}
 use Rattle.sd_conf.specs.declared.config.Config.{Config}
-use Rattle.sd_dial.specs.Entries.{Behind}
 use Rattle.sd_dial.specs.Operations.{Operation}
 use Rattle.sd_inquiry.specs.Counting.{HasNotFallen}
-use Rattle.sd_inquiry.specs.Lookups.{with_operations}
+use Rattle.sd_rules.specs.declared.keys.Key.{Key}
+use Rattle.sd_rules.specs.declared.tasks.Bound.TheVariants as bounds
+use Rattle.sd_rules.specs.declared.tasks.Fetched.TheVariants as fetches
+use Rattle.sd_rules.specs.declared.tasks.Need.TheVariants as needs
+use Rattle.sd_inquiry.specs.Binds.{BindOperations}
+use Rattle.sd_inquiry.specs.Lookups.{LookupOperations, with_operations}
 use Rattle.sd_wire.specs.Frames.{IsCut, IsBad}
 use Rattle.sd_rules.specs.Scripts.{is_need_of_kind, key_at}
 use Rattle.sd_course.specs.Courses.{Client, need_of, event_of, script_at}
@@ -18,7 +22,10 @@ use Rattle.sd_session.specs.Spoken.{IsSpoken}
 use Rattle.sd_engine.specs.declared.ending.SessionEnd.{SessionEnd}
 use Rattle.sd_engine.specs.declared.ending.SessionEnd.TheVariants as ends
 use Rattle.sd_engine.specs.Engines.{Engine, replied}
+use Rattle.sd_engine.specs.Leading.{about, leads_after, ticket_after}
 use Rattle.sd_engine.specs.Turns.{Dialling}
+use Rattle.sd_session.specs.Holding.{is_told}
+use Rattle.sd_session.specs.Closing.{Accounts, AreLed, NoneReserved}
 use Rattle.sd_session.specs.Sessions.{Company, Move, Stand, Trace, AllMay, TracesOn, stand_after, frames_of, last_stops, CountsFalls}
 
 -- What is told of the outside at a moment: the bytes left, the bytes held, the session's own steps, the counts of faults of source and
@@ -43,10 +50,18 @@ pub record IsHeardTo (s : Stand) (engine : Engine) (before now : Outside) : Type
   pub stops : engine.stops ≡ last_stops s.requests
   pub reads : before.reads ≤ now.reads
 
+-- where an answer could not be written whole, its client counts as told
+abbrev pub WasTold : Bool → Option Client → Type 0
+WasTold false client = Unit {0}
+WasTold true None = ⊥
+WasTold true (Some client) = is_told client.course ≡ true
+
 -- the bytes written are those told; where the last answer could not be written whole, the sink has failed
 pub record IsWrittenTo (s : Stand) (engine : Engine) (before now : Outside) : Type 0 where
   pub written : Appends before.held now.held s.written
-  pub failed : engine.has_failed ≡ true → Rose before.writes now.writes
+  pub broken : engine.has_failed ≡ s.broken
+  pub told : WasTold engine.has_failed engine.client
+  pub failed : s.broken ≡ true → Rose before.writes now.writes
   pub writes : before.writes ≤ now.writes
 
 -- the operations asked, and the falls counted; the directories stay
@@ -72,6 +87,7 @@ pub record Stands (w : Company) (seed : List ℕ) (config : Config) (d : Daemon)
   pub written : IsWrittenTo (stand_after seed config d moves) engine before now
   pub trace : TracesOn before.trace (stand_after seed config d moves) now.trace
   pub asked : IsAskedTo (stand_after seed config d moves) before.dialling now.dialling
+  pub account : Accounts daemon engine.leads engine.ticket engine.client (stand_after seed config d moves).own
 
 -- ---- ends
 
@@ -127,27 +143,50 @@ pub record IsFullFor (w : Company) (count : ℕ) (s : Stand) : Type 0 where
   pub forgot : w.full s event count
 
 -- Why a session ended where it stood. But for a fault of the sink, a full journal and want of memory, each request that was heard is
--- carried out.
+-- carried out, and its answer was written whole.
 abbrev pub EndsAs : Company → SessionEnd → Stand → Outside → Outside → Type 0
-EndsAs w ends.Closed s before now = (s.client ≡ None) × Took s [] before now × IsAtEnd now.left
-EndsAs w ends.Stopped s before now = (s.client ≡ None) × (last_stops s.requests ≡ true) × TookMore s before now
-EndsAs w ends.ReadFault s before now = (s.client ≡ None) × IsUnread s before now
-EndsAs w ends.WriteFault s before now = (s.client ≡ None) × Rose before.writes now.writes × TookMore s before now
-EndsAs w (ends.BadFrame at) s before now = (s.client ≡ None) × IsBadAt at s before now
-EndsAs w ends.Cut s before now = (s.client ≡ None) × IsCutOff s before now
-EndsAs w (ends.Long count) s before now = (s.client ≡ None) × IsTooLong count s before now
+EndsAs w ends.Closed s before now = (s.client ≡ None) × (s.broken ≡ false) × Took s [] before now × IsAtEnd now.left
+EndsAs w ends.Stopped s before now = (s.client ≡ None) × (s.broken ≡ false) × (last_stops s.requests ≡ true) × TookMore s before now
+EndsAs w ends.ReadFault s before now = (s.client ≡ None) × (s.broken ≡ false) × IsUnread s before now
+EndsAs w ends.WriteFault s before now = (s.client ≡ None) × (s.broken ≡ true) × TookMore s before now
+EndsAs w (ends.BadFrame at) s before now = (s.client ≡ None) × (s.broken ≡ false) × IsBadAt at s before now
+EndsAs w ends.Cut s before now = (s.client ≡ None) × (s.broken ≡ false) × IsCutOff s before now
+EndsAs w (ends.Long count) s before now = (s.client ≡ None) × (s.broken ≡ false) × IsTooLong count s before now
 EndsAs w (ends.JournalFull count) s before now = IsFullFor w count s × TookMore s before now
 EndsAs w ends.Memory s before now = TookMore s before now
 
+-- the operations of the lookup that the request in hand needed, for which memory was wanting
+pub record LookedLast (config : Config) (s : Stand) (more : List Operation) : Type 0 where
+  pub client : Client
+  pub in_hand : s.client ≡ Some client
+  pub server : ℕ
+  pub key : Key
+  pub needed : need_of client ≡ needs.Fetch server key
+  pub asked : LookupOperations config key server fetches.Memory more
+
+-- the same of a bind
+pub record BoundLast (s : Stand) (more : List Operation) : Type 0 where
+  pub client : Client
+  pub in_hand : s.client ≡ Some client
+  pub server : ℕ
+  pub dn : List ℕ
+  pub password : List ℕ
+  pub needed : need_of client ≡ needs.Bind server dn password
+  pub asked : BindOperations dn password server bounds.Memory more
+
+abbrev pub AskedLast : Config → Stand → List Operation → Type 0
+AskedLast config s more = (more ≡ []) ⊎ (LookedLast config s more ⊎ BoundLast s more)
+
 -- what a lookup or a bind asked for which memory was then wanting
-pub record AskedMore (s : Stand) (before now : Outside) : Type 0 where
+pub record AskedMore (config : Config) (s : Stand) (before now : Outside) : Type 0 where
   pub more : List Operation
+  pub last : AskedLast config s more
   pub told : now.dialling.operations ≡ with_operations before.dialling.operations (s.operations ++ more)
 
 -- The operations asked are those of the moves; where memory was wanting, the last lookup or bind is no move.
-abbrev pub Asked : SessionEnd → Stand → Outside → Outside → Type 0
-Asked ends.Memory s before now = AskedMore s before now
-Asked _ s before now = now.dialling.operations ≡ with_operations before.dialling.operations s.operations
+abbrev pub Asked : Config → SessionEnd → Stand → Outside → Outside → Type 0
+Asked config ends.Memory s before now = AskedMore config s before now
+Asked config _ s before now = now.dialling.operations ≡ with_operations before.dialling.operations s.operations
 
 -- a session from the daemon d on: its moves, and why it ended there
 pub record Ran (w : Company) (seed : List ℕ) (config : Config) (d : Daemon) (before : Outside) (ending : SessionEnd) (daemon : Daemon) (now : Outside) : Type 0 where
@@ -156,11 +195,23 @@ pub record Ran (w : Company) (seed : List ℕ) (config : Config) (d : Daemon) (b
   pub stepped : daemon ≡ (stand_after seed config d moves).daemon
   pub written : Appends before.held now.held (stand_after seed config d moves).written
   pub trace : TracesOn before.trace (stand_after seed config d moves) now.trace
-  pub operations : Asked ending (stand_after seed config d moves) before now
+  pub operations : Asked config ending (stand_after seed config d moves) before now
   pub falls : CountsFalls before.dialling.faults (stand_after seed config d moves).falls now.dialling.faults
   pub why : EndsAs w ending (stand_after seed config d moves) before now
+  pub failed : (stand_after seed config d moves).broken ≡ true → Rose before.writes now.writes
   pub reads : before.reads ≤ now.reads
   pub writes : before.writes ≤ now.writes
+
+-- What is open of what own entries opened: only a full journal and want of memory leave something, which the session leads.
+abbrev pub Unfinished : SessionEnd → Daemon → Engine → List Entry → Type 0
+Unfinished (ends.JournalFull count) d engine own = AreLed d engine.leads engine.ticket own
+Unfinished ends.Memory d engine own = AreLed d engine.leads engine.ticket own
+Unfinished _ d engine own = NoneReserved d own
+
+-- a session that ran to its end, and what its engine then leads
+pub record RanTo (w : Company) (seed : List ℕ) (config : Config) (d : Daemon) (before : Outside) (ending : SessionEnd) (engine : Engine) (daemon : Daemon) (now : Outside) : Type 0 where
+  pub ran : Ran w seed config d before ending daemon now
+  pub unfinished : Unfinished ending daemon engine (stand_after seed config d ran.moves).own
 
 -- ---- parts of a turn
 
@@ -180,21 +231,27 @@ pub record Awaits (daemon : Daemon) (engine : Engine) (event : Event) : Type 0 w
   pub kind : is_need_of_kind (key_at (script_at client)) (need_of client) ≡ true
   pub known : IsSpoken daemon client.course
   pub ready : engine.is_ready ≡ true
+  pub about_it : engine.about ≡ about event
+
+-- what is led and waited with is by the reply
+pub record LeadsOn (old : Engine) (gave : Given) (new : Engine) : Type 0 where
+  pub leads : new.leads ≡ leads_after old.leads old.about gave.reply
+  pub ticket : new.ticket ≡ ticket_after old.ticket gave.reply
 
 -- what a step gave was told to the engine, or memory was wanting
 abbrev pub TellsOf : Option SessionEnd → Engine → Given → Engine → Type 0
 TellsOf None old gave new = IfSome old.client (λ c. new ≡ replied old c gave)
-TellsOf (Some ending) old gave new = ending ≡ ends.Memory
+TellsOf (Some ending) old gave new = (ending ≡ ends.Memory) × LeadsOn old gave new
 
 -- what goes on: wherever the session stood before, it stands after
 abbrev pub GoesOn : Company → List ℕ → Config → Engine → Daemon → Outside → Engine → Daemon → Outside → Type 0
 GoesOn w seed config e daemon o f daemon' p = (d : Daemon) (before : Outside) → Stands w seed config d before e daemon o → Stands w seed config d before f daemon' p
 
 -- what ends: wherever the session stood before, it ran from there to this end
-abbrev pub EndsIn : Company → List ℕ → Config → SessionEnd → Engine → Daemon → Outside → Daemon → Outside → Type 0
-EndsIn w seed config ending e daemon o daemon' p = (d : Daemon) (before : Outside) → Stands w seed config d before e daemon o → Ran w seed config d before ending daemon' p
+abbrev pub EndsIn : Company → List ℕ → Config → SessionEnd → Engine → Daemon → Outside → Engine → Daemon → Outside → Type 0
+EndsIn w seed config ending e daemon o f daemon' p = (d : Daemon) (before : Outside) → Stands w seed config d before e daemon o → RanTo w seed config d before ending f daemon' p
 
 -- a turn goes on, or ends the session
 abbrev pub Turned : Company → List ℕ → Config → Option SessionEnd → Engine → Daemon → Outside → Engine → Daemon → Outside → Type 0
 Turned w seed config None e daemon o f daemon' p = GoesOn w seed config e daemon o f daemon' p
-Turned w seed config (Some ending) e daemon o f daemon' p = EndsIn w seed config ending e daemon o daemon' p
+Turned w seed config (Some ending) e daemon o f daemon' p = EndsIn w seed config ending e daemon o f daemon' p

@@ -1,11 +1,10 @@
 -- A session: the moves that the scripts of its requests call for, over a daemon that others may move on in between.
-use Rattle.std.specs.Prelude.{◌≡◌, ℕ, ◌+◌, ◌^◌, ◌-◌, ◌≤◌, min, Bool, true, false, List, [], ◌∷◌, ◌++◌, reverse, take, Option, Some, None, if◌then◌else◌}
+use Rattle.std.specs.Prelude.{◌≡◌, ℕ, ◌+◌, ◌^◌, ◌-◌, ◌≤◌, min, Bool, true, false, List, [], ◌∷◌, ◌++◌, reverse, take, Option, Some, None}
 use Rattle.std.specs.Option.{option_map}
 use Rattle.sd_base.specs.declared.Why.TheVariants as whys
 use Rattle.sd_rules.specs.declared.keys.Key.{Key}
 use Rattle.sd_rules.specs.declared.events.Event.{Event}
 use Rattle.sd_rules.specs.declared.replies.Entry.{Entry}
-use Rattle.sd_rules.specs.declared.settings.Settings.{Settings}
 use Rattle.sd_rules.specs.declared.tasks.Bound.{Bound}
 use Rattle.sd_rules.specs.declared.tasks.Bound.TheVariants as bounds
 use Rattle.sd_rules.specs.declared.tasks.Fetched.{Fetched}
@@ -44,7 +43,7 @@ pub data Move : Type 0 where
 
 -- Where a session stands: the daemon; the one that its last own step made, at first the one that it began with; the request in hand;
 -- the requests heard, the newest first; the bytes written; the own entries, the moments handed in and the operations asked, the first
--- first; and how many lookups and binds fell with their link.
+-- first; how many lookups and binds fell with their link; and whether an answer could not be written whole.
 pub record Stand : Type 0 where
   pub daemon : Daemon
   pub own_end : Daemon
@@ -55,9 +54,10 @@ pub record Stand : Type 0 where
   pub moments : List ℕ
   pub operations : List Operation
   pub falls : ℕ
+  pub broken : Bool
 
 abbrev pub begun : Daemon → Stand
-begun d = record { daemon = d; own_end = d; client = None; requests = []; written = []; own = []; moments = []; operations = []; falls = 0 }
+begun d = record { daemon = d; own_end = d; client = None; requests = []; written = []; own = []; moments = []; operations = []; falls = 0; broken = false }
 
 abbrev pub fetch_falls : Fetched → ℕ
 fetch_falls (fetches.Failed whys.Link) = 1
@@ -89,7 +89,7 @@ moved seed config s (Binds bound operations) = record s {
   falls = s.falls + bind_falls bound;
 }
 moved seed config s (Tells said) = record s { client = option_map client_told s.client; written = s.written ++ reply_of config.pwfield said }
-moved seed config s (Breaks said count) = record s { client = option_map client_told s.client; written = s.written ++ take count (reply_of config.pwfield said) }
+moved seed config s (Breaks said count) = record s { client = option_map client_told s.client; written = s.written ++ take count (reply_of config.pwfield said); broken = true }
 moved seed config s Finishes = record s { client = None }
 
 -- where a session stands after moves, the newest first
@@ -127,10 +127,17 @@ pub record NeedsBind (behind : ℕ → Option Behind) (s : Stand) (bound : Bound
   pub asked : BindOperations dn password server bound operations
   pub told : (b : Behind) → behind server ≡ Some b → IsToldBind bound (told_bind b 0 1 dn password)
 
+-- the client is told; nothing is told after an answer that could not be written whole
 pub record NeedsSay (s : Stand) (said : Said) : Type 0 where
   pub client : Client
   pub in_hand : s.client ≡ Some client
   pub needed : need_of client ≡ needs.Say said
+  pub whole : s.broken ≡ false
+
+-- a request is heard where none is in hand, and all answers before were written whole
+pub record MayHear (s : Stand) : Type 0 where
+  pub none : s.client ≡ None
+  pub whole : s.broken ≡ false
 
 pub record NeedsNothing (s : Stand) : Type 0 where
   pub client : Client
@@ -149,7 +156,7 @@ alone = record { others = λ d e. e ≡ d; full = λ s event count. Unit {0} }
 
 abbrev pub May : Company → Config → (ℕ → Option Behind) → Stand → Move → Type 0
 May w config behind s (Finds found) = w.others s.daemon found
-May w config behind s (Hears request) = s.client ≡ None
+May w config behind s (Hears request) = MayHear s
 May w config behind s (Steps now event) = NeedsStep s event
 May w config behind s (Refuses now) = Unit {0}
 May w config behind s (Fetches fetched operations) = NeedsFetch config behind s fetched operations

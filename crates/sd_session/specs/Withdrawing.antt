@@ -7,7 +7,8 @@ use Rattle.sd_rules.specs.Steps.{Daemon, after, entry_made}
 use Rattle.sd_conf.specs.declared.config.Config.{Config}
 use Rattle.sd_engine.specs.declared.ending.SessionEnd.{SessionEnd}
 use Rattle.sd_engine.specs.declared.ending.SessionEnd.TheVariants as ends
-use Rattle.sd_session.specs.Sessions.{Company, Trace, ReadsOn}
+use Rattle.sd_session.specs.Closing.{NoneReserved}
+use Rattle.sd_session.specs.Sessions.{Company, Trace, ReadsOn, stand_after}
 use Rattle.sd_session.specs.Running.{Outside, Ran, tracing}
 
 -- An event at a moment handed in, over the daemon that was found, and whether its step was made.
@@ -59,9 +60,11 @@ abbrev pub MayWithdraw : Company → Bool → Daemon → Daemon → Trace → Tr
 MayWithdraw w true d daemon before now = Withdraws w d daemon before now
 MayWithdraw w false d daemon before now = (daemon ≡ d) × (now ≡ before)
 
--- A whole session from the daemon d on: it runs to its end, and then gives up what it has to.
+-- A whole session from the daemon d on: it runs to its end, and then gives up what it has to. Nothing that its own entries opened is
+-- open then, and no ticket that they gave waits.
 pub record Session (w : Company) (seed : List ℕ) (config : Config) (d : Daemon) (before : Outside) (ending : SessionEnd) (daemon : Daemon) (now : Outside) : Type 0 where
   pub between : Daemon
   pub trace : Trace
   pub ran : Ran w seed config d before ending between (tracing now trace)
   pub withdraws : MayWithdraw w (is_abrupt ending) between daemon trace now.trace
+  pub closed : NoneReserved daemon (stand_after seed config d ran.moves).own

@@ -1,8 +1,11 @@
 //! What a session at a desk gives up at its end.
-ghost use Rattle.std.specs.Prelude.{◌≡◌, true};
+ghost use Rattle.std.specs.Prelude.{◌≡◌, ℕ, true, Some};
+ghost use Rattle.sd_rules.specs.Reaching.{Reaches};
 ghost use Rattle.sd_desk.specs.Desks.{front, IsOwn, HoldsNoTurn, IsSameSeat};
 ghost use Rattle.sd_desk.specs.Steps.{MayStep};
+ghost use Rattle.sd_session.specs.Closing.{GivesUp, HasLeft, IsOver, IsShut, WasGiven};
 ghost use Rattle.sd_session.specs.Desks as desks;
+ghost use Rattle.sd_session.specs.Holding.{lists};
 ghost use Rattle.sd_session.specs.Withdrawing as withdrawing;
 
 use crate::seated::step;
@@ -27,6 +30,8 @@ fn try_step<R: Wait, C: Clock>(
     ensures free { HoldsNoTurn seat.new }
     ensures same { IsSameSeat seat.old seat.new }
     ensures withdraws { withdrawing.Withdraws desks.at_desk (front desk.now seat.old) (front desk.now seat.new) (desks.trace_at (C.readings clock.old) seat.old) (desks.trace_at (C.readings clock.new) seat.new) }
+    ensures reaches { Reaches (front desk.now seat.old) (front desk.now seat.new) }
+    ensures over { IsOver (front desk.now seat.old) (front desk.now seat.new) event }
 {
     let _ = step(rt, desk, seat, clock, event);
 }
@@ -45,6 +50,8 @@ fn abandon_all<R: Wait, C: Clock>(
     ensures free { HoldsNoTurn seat.new }
     ensures same { IsSameSeat seat.old seat.new }
     ensures withdraws { withdrawing.Withdraws desks.at_desk (front desk.now seat.old) (front desk.now seat.new) (desks.trace_at (C.readings clock.old) seat.old) (desks.trace_at (C.readings clock.new) seat.new) }
+    ensures reaches { Reaches (front desk.now seat.old) (front desk.now seat.new) }
+    ensures abandoned { (n : ℕ) → lists numbers.now n ≡ true → WasGiven n (front desk.now seat.old) → IsShut n (front desk.now seat.new) }
 {
     for number in numbers {
         try_step(rt, desk, seat, clock, Event::Abandon(*number));
@@ -65,6 +72,8 @@ fn leave<R: Wait, C: Clock>(
     ensures free { HoldsNoTurn seat.new }
     ensures same { IsSameSeat seat.old seat.new }
     ensures withdraws { withdrawing.Withdraws desks.at_desk (front desk.now seat.old) (front desk.now seat.new) (desks.trace_at (C.readings clock.old) seat.old) (desks.trace_at (C.readings clock.new) seat.new) }
+    ensures reaches { Reaches (front desk.now seat.old) (front desk.now seat.new) }
+    ensures left { (n : ℕ) → ticket ≡ Some n → WasGiven n (front desk.now seat.old) → HasLeft n (front desk.now seat.new) }
 {
     if let Some(ticket) = ticket {
         try_step(rt, desk, seat, clock, Event::Leave(ticket));
@@ -86,6 +95,7 @@ pub fn leave_desk<R: Wait, C: Clock>(
     ensures free { HoldsNoTurn seat.new }
     ensures same { IsSameSeat seat.old seat.new }
     ensures withdraws { withdrawing.Withdraws desks.at_desk (front desk.now seat.old) (front desk.now seat.new) (desks.trace_at (C.readings clock.old) seat.old) (desks.trace_at (C.readings clock.new) seat.new) }
+    ensures gives_up { GivesUp (front desk.now seat.old) (front desk.now seat.new) leads.now ticket }
 {
     abandon_all(rt, desk, seat, clock, leads);
     leave(rt, desk, seat, clock, ticket);

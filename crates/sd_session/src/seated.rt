@@ -1,8 +1,10 @@
 //! The steps of a session at a desk.
-ghost use Rattle.std.specs.Prelude.{◌≡◌, ℕ, IfOk, IfErr, OnErr};
+ghost use Rattle.std.specs.Prelude.{◌≡◌, ℕ, false, IfOk, IfErr, OnErr};
 ghost use Rattle.sd_rules.specs.Reaching.{Reaches};
 ghost use Rattle.sd_desk.specs.Desks.{front, mine, IsOwn, HoldsNoTurn, IsSameSeat};
 ghost use Rattle.sd_desk.specs.Steps.{MayStep, MadeEntry, FullAfterForget};
+ghost use Rattle.sd_past.specs.Closing.{closes_place};
+ghost use Rattle.sd_session.specs.Closing.{IsOver};
 ghost use Rattle.sd_session.specs.Desks as desks;
 ghost use Rattle.sd_session.specs.Stepping as stepping;
 
@@ -52,12 +54,14 @@ fn step_after_forget<R: Wait>(
     requires own { IsOwn desk.now seat.old }
     requires free { HoldsNoTurn seat.old }
     requires may { MayStep (front desk.now seat.old) refused.event }
+    requires closing { closes_place (front desk.now seat.old).past refused.event ≡ false }
     ensures own { IsOwn desk.now seat.new }
     ensures free { HoldsNoTurn seat.new }
     ensures same { IsSameSeat seat.old seat.new }
     ensures reaches { Reaches (front desk.now seat.old) (front desk.now seat.new) }
     ensures made { IfOk result (λ given. MadeEntry (front desk.now seat.old) (front desk.now seat.new) (mine seat.old) (mine seat.new) now refused.event given) }
     ensures mine { OnErr result (mine seat.new ≡ mine seat.old) }
+    ensures over { OnErr result (IsOver (front desk.now seat.old) (front desk.now seat.new) refused.event) }
     ensures back { IfErr result (λ again. again.event ≡ refused.event) }
     ensures full { IfErr result (λ again. (n : ℕ) → again.fault ≡ StepFault.JournalFull n → FullAfterForget (front desk.now seat.old) (front desk.now seat.new) refused.event n) }
 {
@@ -87,6 +91,7 @@ fn step_with_room<R: Wait>(
     ensures reaches { Reaches (front desk.now seat.old) (front desk.now seat.new) }
     ensures made { IfOk result (λ given. MadeEntry (front desk.now seat.old) (front desk.now seat.new) (mine seat.old) (mine seat.new) now event given) }
     ensures mine { OnErr result (mine seat.new ≡ mine seat.old) }
+    ensures over { OnErr result (IsOver (front desk.now seat.old) (front desk.now seat.new) event) }
     ensures full { IfErr result (λ refused. (n : ℕ) → refused.fault ≡ StepFault.JournalFull n → FullAfterForget (front desk.now seat.old) (front desk.now seat.new) event n) }
 {
     match desk.step(rt, seat, now, event) {
@@ -111,6 +116,7 @@ pub fn step<R: Wait, C: Clock>(
     ensures same { IsSameSeat seat.old seat.new }
     ensures made { IfOk result (λ given. stepping.IsMade desks.at_desk (front desk.now seat.old) event given (front desk.now seat.new) (desks.trace_at (C.readings clock.old) seat.old) (desks.trace_at (C.readings clock.new) seat.new)) }
     ensures refused { IfErr result (λ end. stepping.IsRefused desks.at_desk (front desk.now seat.old) event end (front desk.now seat.new) (desks.trace_at (C.readings clock.old) seat.old) (desks.trace_at (C.readings clock.new) seat.new)) }
+    ensures over { OnErr result (IsOver (front desk.now seat.old) (front desk.now seat.new) event) }
     ensures full { IfErr result (λ end. (n : ℕ) → end ≡ SessionEnd.JournalFull n → FullAfterForget (front desk.now seat.old) (front desk.now seat.new) event n) }
 {
     let now = clock.now();

@@ -7,6 +7,7 @@ ghost use Rattle.sd_conf.specs.declared.config.Config.{Config as ConfigValue};
 ghost use Rattle.sd_desk.specs.Desks.{front, config_of, salts_of, IsOwn, HoldsNoTurn, IsSameSeat};
 ghost use Rattle.sd_engine.specs.Engines as engines;
 ghost use Rattle.sd_session.specs.Desks as desks;
+ghost use Rattle.sd_session.specs.Closing.{GivesUp};
 ghost use Rattle.sd_session.specs.Running as running;
 ghost use Rattle.sd_session.specs.Spoken.{IsSpoken};
 ghost use Rattle.sd_session.specs.Withdrawing as withdrawing;
@@ -129,7 +130,7 @@ fn run<R: Wait, S: Source, W: Sink, D: Dialer, C: Clock, G: Gate>(
     ensures own { IsOwn desk.now seat.new }
     ensures free { HoldsNoTurn seat.new }
     ensures same { IsSameSeat seat.old seat.new }
-    ensures ran { running.Ran desks.at_desk salts.now config.now (front desk.now seat.old) (running.outside_at (S.left source.old) (W.held sink.old) (desks.trace_at (C.readings clock.old) seat.old) (S.faults source.old) (W.faults sink.old) (record { operations = D.operations dialer.old; faults = D.faults dialer.old; behind = D.behind dialer.old })) result (front desk.now seat.new) (running.outside_at (S.left source.new) (W.held sink.new) (desks.trace_at (C.readings clock.new) seat.new) (S.faults source.new) (W.faults sink.new) (record { operations = D.operations dialer.new; faults = D.faults dialer.new; behind = D.behind dialer.new })) }
+    ensures ran { running.RanTo desks.at_desk salts.now config.now (front desk.now seat.old) (running.outside_at (S.left source.old) (W.held sink.old) (desks.trace_at (C.readings clock.old) seat.old) (S.faults source.old) (W.faults sink.old) (record { operations = D.operations dialer.old; faults = D.faults dialer.old; behind = D.behind dialer.old })) result engine.new (front desk.now seat.new) (running.outside_at (S.left source.new) (W.held sink.new) (desks.trace_at (C.readings clock.new) seat.new) (S.faults source.new) (W.faults sink.new) (record { operations = D.operations dialer.new; faults = D.faults dialer.new; behind = D.behind dialer.new })) }
 {
     for round in 0..u64::MAX {
         forget_where_grown(rt, desk, seat);
@@ -160,6 +161,7 @@ fn give_up<R: Wait, C: Clock>(
     ensures free { HoldsNoTurn seat.new }
     ensures same { IsSameSeat seat.old seat.new }
     ensures withdraws { withdrawing.MayWithdraw desks.at_desk (withdrawing.is_abrupt end) (front desk.now seat.old) (front desk.now seat.new) (desks.trace_at (C.readings clock.old) seat.old) (desks.trace_at (C.readings clock.new) seat.new) }
+    ensures gives_up { withdrawing.is_abrupt end ≡ true → GivesUp (front desk.now seat.old) (front desk.now seat.new) engine.now.leads engine.now.ticket }
 {
     if !is_abrupt(end) {
         return;

@@ -6,6 +6,7 @@ ghost use Rattle.sd_core.specs.Growth as growth;
 ghost use Rattle.sd_conf.specs.declared.config.Config.{Config as ConfigValue};
 ghost use Rattle.sd_session.specs.Spoken.{IsSpoken};
 ghost use Rattle.sd_engine.specs.Engines as engines;
+ghost use Rattle.sd_session.specs.Closing.{GivesUp};
 ghost use Rattle.sd_session.specs.Running as running;
 ghost use Rattle.sd_session.specs.Sessions as sessions;
 ghost use Rattle.sd_session.specs.Withdrawing as withdrawing;
@@ -89,7 +90,7 @@ fn run<S: Source, W: Sink, D: Dialer, C: Clock>(
     clock: &mut C,
 ) -> SessionEnd
     requires { engine.old ≡ engines.begun }
-    ensures ran { running.Ran sessions.alone salts.now config.now core.old (running.outside_at (S.left source.old) (W.held sink.old) (sessions.trace_of (C.readings clock.old) core.old) (S.faults source.old) (W.faults sink.old) (record { operations = D.operations dialer.old; faults = D.faults dialer.old; behind = D.behind dialer.old })) result core.new (running.outside_at (S.left source.new) (W.held sink.new) (sessions.trace_of (C.readings clock.new) core.new) (S.faults source.new) (W.faults sink.new) (record { operations = D.operations dialer.new; faults = D.faults dialer.new; behind = D.behind dialer.new })) }
+    ensures ran { running.RanTo sessions.alone salts.now config.now core.old (running.outside_at (S.left source.old) (W.held sink.old) (sessions.trace_of (C.readings clock.old) core.old) (S.faults source.old) (W.faults sink.old) (record { operations = D.operations dialer.old; faults = D.faults dialer.old; behind = D.behind dialer.old })) result engine.new core.new (running.outside_at (S.left source.new) (W.held sink.new) (sessions.trace_of (C.readings clock.new) core.new) (S.faults source.new) (W.faults sink.new) (record { operations = D.operations dialer.new; faults = D.faults dialer.new; behind = D.behind dialer.new })) }
     ensures grown { growth.KeepsGrown core.old core.new }
 {
     for round in 0..u64::MAX {
@@ -106,6 +107,7 @@ fn run<S: Source, W: Sink, D: Dialer, C: Clock>(
 /// Gives up what a session leads and waits with, where its end leaves something.
 fn give_up<C: Clock>(core: &mut Core, engine: &Engine, clock: &mut C, end: SessionEnd)
     ensures withdraws { withdrawing.MayWithdraw sessions.alone (withdrawing.is_abrupt end) core.old core.new (sessions.trace_of (C.readings clock.old) core.old) (sessions.trace_of (C.readings clock.new) core.new) }
+    ensures gives_up { withdrawing.is_abrupt end ≡ true → GivesUp core.old core.new engine.now.leads engine.now.ticket }
     ensures grown { growth.KeepsGrown core.old core.new }
 {
     if !is_abrupt(end) {

@@ -1,7 +1,8 @@
 //! The steps of a session over a core.
-ghost use Rattle.std.specs.Prelude.{◌≡◌, true, false, IfOk, IfErr};
+ghost use Rattle.std.specs.Prelude.{◌≡◌, true, false, IfOk, IfErr, OnErr};
 ghost use Rattle.sd_rules.specs.Steps as steps;
 ghost use Rattle.sd_core.specs.Growth as growth;
+ghost use Rattle.sd_session.specs.Closing.{IsOver};
 ghost use Rattle.sd_session.specs.Sessions as sessions;
 ghost use Rattle.sd_session.specs.Stepping as stepping;
 
@@ -25,6 +26,8 @@ pub fn step<C: Clock>(core: &mut Core, clock: &mut C, event: Event) -> Result<Gi
     requires { steps.is_steppable core.old.past event ≡ true }
     ensures made { IfOk result (λ given. stepping.IsMade sessions.alone core.old event given core.new (sessions.trace_of (C.readings clock.old) core.old) (sessions.trace_of (C.readings clock.new) core.new)) }
     ensures refused { IfErr result (λ end. stepping.IsRefused sessions.alone core.old event end core.new (sessions.trace_of (C.readings clock.old) core.old) (sessions.trace_of (C.readings clock.new) core.new)) }
+    // An Abandon of what is open, and a Leave of a ticket that waits, are never refused.
+    ensures over { OnErr result (IsOver core.old core.new event) }
     ensures grown { growth.KeepsGrown core.old core.new }
 {
     // What a core keeps is known of it from its number on.

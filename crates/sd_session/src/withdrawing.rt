@@ -1,7 +1,10 @@
 //! What a session gives up at its end.
-ghost use Rattle.std.specs.Prelude.{◌≡◌, true};
+ghost use Rattle.std.specs.Prelude.{◌≡◌, ℕ, true, Some};
+ghost use Rattle.sd_rules.specs.Reaching.{Reaches};
 ghost use Rattle.sd_rules.specs.Steps as steps;
 ghost use Rattle.sd_core.specs.Growth as growth;
+ghost use Rattle.sd_session.specs.Closing.{GivesUp, HasLeft, IsOver, IsShut, WasGiven};
+ghost use Rattle.sd_session.specs.Holding.{lists};
 ghost use Rattle.sd_session.specs.Sessions as sessions;
 ghost use Rattle.sd_session.specs.Withdrawing as withdrawing;
 
@@ -24,6 +27,8 @@ fn try_step<C: Clock>(core: &mut Core, clock: &mut C, event: Event)
     requires gives_up { withdrawing.gives_up event ≡ true }
     ensures withdraws { withdrawing.Withdraws sessions.alone core.old core.new (sessions.trace_of (C.readings clock.old) core.old) (sessions.trace_of (C.readings clock.new) core.new) }
     ensures grown { growth.KeepsGrown core.old core.new }
+    ensures reaches { Reaches core.old core.new }
+    ensures over { IsOver core.old core.new event }
 {
     let _ = step(core, clock, event);
 }
@@ -32,6 +37,8 @@ fn try_step<C: Clock>(core: &mut Core, clock: &mut C, event: Event)
 fn abandon_all<C: Clock>(core: &mut Core, clock: &mut C, numbers: &[u64])
     ensures withdraws { withdrawing.Withdraws sessions.alone core.old core.new (sessions.trace_of (C.readings clock.old) core.old) (sessions.trace_of (C.readings clock.new) core.new) }
     ensures grown { growth.KeepsGrown core.old core.new }
+    ensures reaches { Reaches core.old core.new }
+    ensures abandoned { (n : ℕ) → lists numbers.now n ≡ true → WasGiven n core.old → IsShut n core.new }
 {
     for number in numbers {
         try_step(core, clock, Event::Abandon(*number));
@@ -42,6 +49,8 @@ fn abandon_all<C: Clock>(core: &mut Core, clock: &mut C, numbers: &[u64])
 fn leave<C: Clock>(core: &mut Core, clock: &mut C, ticket: Option<u64>)
     ensures withdraws { withdrawing.Withdraws sessions.alone core.old core.new (sessions.trace_of (C.readings clock.old) core.old) (sessions.trace_of (C.readings clock.new) core.new) }
     ensures grown { growth.KeepsGrown core.old core.new }
+    ensures reaches { Reaches core.old core.new }
+    ensures left { (n : ℕ) → ticket ≡ Some n → WasGiven n core.old → HasLeft n core.new }
 {
     if let Some(ticket) = ticket {
         try_step(core, clock, Event::Leave(ticket));
@@ -52,6 +61,7 @@ fn leave<C: Clock>(core: &mut Core, clock: &mut C, ticket: Option<u64>)
 pub fn withdraw<C: Clock>(core: &mut Core, clock: &mut C, leads: &[u64], ticket: Option<u64>)
     ensures withdraws { withdrawing.Withdraws sessions.alone core.old core.new (sessions.trace_of (C.readings clock.old) core.old) (sessions.trace_of (C.readings clock.new) core.new) }
     ensures grown { growth.KeepsGrown core.old core.new }
+    ensures gives_up { GivesUp core.old core.new leads.now ticket }
 {
     abandon_all(core, clock, leads);
     leave(core, clock, ticket);

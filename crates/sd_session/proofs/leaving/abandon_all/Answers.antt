@@ -1,5 +1,7 @@
 use Rattle.sd_session.proofs.GivingUp.{withdraws_both}
 use Rattle.sd_session.proofs.Sharing.{same_through}
+use Rattle.sd_rules.proofs.ReachingLaws.{reaches_through}
+use Rattle.sd_session.proofs.OverLaws.{abandoned_at}
 use Rattle.sd_session.proofs.leaving.abandon_all.Goals as goal
 
 pub loop-number-preserved : goal.loop-number-preserved
@@ -8,4 +10,6 @@ loop-number-preserved g c = record {
   free = c.try_step.ensures.free;
   same = same_through c.args.seat.now c.loop-number.seat c.try_step.new.seat c.loop-number.invariant.same c.try_step.ensures.same;
   withdraws = withdraws_both _ _ _ _ _ _ _ c.loop-number.invariant.withdraws c.try_step.ensures.withdraws;
+  reaches = reaches_through _ _ _ c.loop-number.invariant.reaches c.try_step.ensures.reaches;
+  abandoned = abandoned_at _ _ _ c.args.numbers.now c.loop-number.number-index c.loop-number-test.true c.loop-number.invariant.reaches c.try_step.ensures.reaches c.try_step.ensures.over c.loop-number.invariant.abandoned;
 }

@@ -1,5 +1,5 @@
 use Rattle.std.proofs.Common.{◌≡◌, ℕ, sym, subst}
-use Rattle.sd_desk.specs.Desks.{front, mine}
+use Rattle.sd_desk.specs.Desks.{front}
 use Rattle.sd_desk.specs.Steps.{FullAfterForget}
 use Rattle.sd_engine.specs.declared.ending.SessionEnd.{SessionEnd}
 use Rattle.sd_engine.specs.declared.ending.SessionEnd.TheVariants as ends

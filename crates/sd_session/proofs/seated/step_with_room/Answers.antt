@@ -4,6 +4,7 @@ use Rattle.sd_rules.proofs.ReachingLaws.{reaches_through}
 use Rattle.sd_desk.specs.Desks.{front}
 use Rattle.sd_desk.specs.Steps.{MayStep}
 use Rattle.sd_session.proofs.Sharing.{may_later, later_made, later_full}
+use Rattle.sd_session.proofs.OverLaws.{over_earlier}
 use Rattle.sd_session.proofs.seated.step_with_room.Goals as goal
 
 pub step_after_forget-requires-clause-may : goal.step_after_forget-requires-clause-may
@@ -18,3 +19,8 @@ returns-in-Err-clause-made g c = later_made _ _ _ _ _ _ c.args.now c.args.event 
 
 pub returns-in-Err-clause-full : goal.returns-in-Err-clause-full
 returns-in-Err-clause-full g c = later_full _ _ _ c.args.event c.in-Err.refused.event c.step_after_forget.result c.step.ensures.reaches c.in-Err.ensures.back c.step_after_forget.ensures.full
+
+pub returns-in-Err-clause-over : goal.returns-in-Err-clause-over
+returns-in-Err-clause-over g c =
+    over_earlier (front c.args.desk.now c.args.seat.now) (front c.args.desk.now c.step.new.seat) (front c.args.desk.now c.step_after_forget.new.seat) c.args.event c.in-Err.refused.event c.step_after_forget.result c.step.ensures.reaches c.in-Err.ensures.back
+    c.step_after_forget.ensures.over

@@ -27,5 +27,5 @@ pub returns-in-Err-clause-turned : goal.returns-in-Err-clause-turned
 returns-in-Err-clause-turned g c = λ seed config o.
     let t = trace_at (g.C.Clock.readings c.args.clock.now) c.args.seat.now in
     carries_refused at_desk seed config o c.in-Err.end (front c.args.desk.now c.args.seat.now) (front c.args.desk.now c.step.new.seat) c.args.engine.now c.args.event t
-    (trace_at (g.C.Clock.readings c.step.new.clock) c.step.new.seat) c.requires.awaits c.in-Err.ensures.refused
+    (trace_at (g.C.Clock.readings c.step.new.clock) c.step.new.seat) far_at_desk c.requires.awaits c.in-Err.ensures.refused
     (forgot_before seed config c.in-Err.end c.args.engine.now (front c.args.desk.now c.args.seat.now) (front c.args.desk.now c.step.new.seat) (tracing o t) c.args.event c.in-Err.ensures.refused.now c.in-Err.ensures.full)

@@ -1,7 +1,6 @@
 use Rattle.sd_rules.specs.declared.events.Event.TheVariants as events
 use Rattle.sd_desk.specs.Desks.{front}
 use Rattle.sd_session.specs.Desks.{at_desk, trace_at}
-use Rattle.sd_session.specs.Running.{tracing}
 use Rattle.sd_session.proofs.Carrying.{fits, told_turned, awaits_on, carries_waiting}
 use Rattle.sd_session.proofs.Ending.{ran_idle}
 use Rattle.sd_session.proofs.Sharing.{far_at_desk, same_through}

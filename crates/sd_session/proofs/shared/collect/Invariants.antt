@@ -1,6 +1,5 @@
 use Rattle.std.specs.Prelude.{ℕ, List}
 use Rattle.sd_rules.specs.declared.events.Event.TheVariants as events
-use Rattle.sd_rules.specs.Reaching.{Reaches}
 use Rattle.sd_conf.specs.declared.config.Config.{Config}
 use Rattle.sd_desk.specs.Desks.{front, IsOwn, HoldsNoTurn, IsSameSeat}
 use Rattle.sd_session.specs.Desks.{at_desk, trace_at}

@@ -1,5 +1,4 @@
 use Rattle.std.proofs.Common.{refl}
-use Rattle.sd_desk.specs.Desks.{front}
 use Rattle.sd_session.specs.Desks.{at_desk}
 use Rattle.sd_session.proofs.Carrying.{spoken_reached}
 use Rattle.sd_session.proofs.Ending.{ran_idle}
@@ -17,7 +16,7 @@ turn-requires-clause-spoken g c = λ x is. spoken_reached _ _ x.course c.forget_
 pub returns-in-Some-clause-ran : goal.returns-in-Some-clause-ran
 returns-in-Some-clause-ran g c =
     c.in-Some.ensures.turned _ _
-    (stands_finds at_desk _ _ _ _ _ _ _ _ _ c.loop-round.invariant.stands c.forget_where_grown.ensures.reaches
+    (stands_finds at_desk _ _ _ _ _ _ _ _ _ c.loop-round.invariant.stands c.forget_where_grown.ensures.reaches c.forget_where_grown.ensures.reaches
     (λ x is. spoken_reached _ _ x.course c.forget_where_grown.ensures.reaches (known_in_hand _ _ _ c.loop-round.invariant.stands.hand.in_hand x is)) (same_told _ _ _ _ _ _ _ _ c.forget_where_grown.ensures.mine))
 
 pub loop-round-preserved : goal.loop-round-preserved
@@ -27,7 +26,7 @@ loop-round-preserved g c = record {
   same = same_through c.args.seat.now c.forget_where_grown.new.seat c.turn.new.seat (same_through c.args.seat.now c.loop-round.seat c.forget_where_grown.new.seat c.loop-round.invariant.same c.forget_where_grown.ensures.same) c.turn.ensures.same;
   stands =
       c.in-None.ensures.turned _ _
-      (stands_finds at_desk _ _ _ _ _ _ _ _ _ c.loop-round.invariant.stands c.forget_where_grown.ensures.reaches
+      (stands_finds at_desk _ _ _ _ _ _ _ _ _ c.loop-round.invariant.stands c.forget_where_grown.ensures.reaches c.forget_where_grown.ensures.reaches
       (λ x is. spoken_reached _ _ x.course c.forget_where_grown.ensures.reaches (known_in_hand _ _ _ c.loop-round.invariant.stands.hand.in_hand x is)) (same_told _ _ _ _ _ _ _ _ c.forget_where_grown.ensures.mine));
 }
 

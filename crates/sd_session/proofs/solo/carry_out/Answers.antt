@@ -23,4 +23,4 @@ returns-in-Ok-clause-turned g c = λ seed config o.
 pub returns-in-Err-clause-turned : goal.returns-in-Err-clause-turned
 returns-in-Err-clause-turned g c = λ seed config o.
     carries_refused alone seed config o c.in-Err.end c.args.core.now c.step.new.core c.args.engine.now c.args.event (trace_of (g.C.Clock.readings c.args.clock.now) c.args.core.now)
-    (trace_of (g.C.Clock.readings c.step.new.clock) c.step.new.core) c.requires c.in-Err.ensures.refused (λ d before s count is. tt)
+    (trace_of (g.C.Clock.readings c.step.new.clock) c.step.new.core) stays_near c.requires c.in-Err.ensures.refused (λ d before s count is. tt)

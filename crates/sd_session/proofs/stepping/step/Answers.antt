@@ -1,7 +1,11 @@
-use Rattle.std.proofs.Common.{◌≡◌, refl, sym, subst}
+use Rattle.std.proofs.Common.{◌∙◌, Err, refl, sym, ap, subst}
+use Rattle.sd_rules.specs.Steps.{Daemon}
+use Rattle.sd_past.specs.Closing.{closes_place}
+use Rattle.sd_desk.proofs.Made.{not_closing}
 use Rattle.sd_engine.specs.declared.ending.SessionEnd.{SessionEnd}
 use Rattle.sd_session.specs.Stepping.{RefusedAs}
-use Rattle.sd_session.proofs.Refusing.{refused_as, journal_more, journal_same, full_here}
+use Rattle.sd_session.proofs.OverLaws.{over_found}
+use Rattle.sd_session.proofs.Refusing.{refused_as, journal_more, journal_same, full_here, stays_near}
 use Rattle.sd_session.proofs.stepping.step.Goals as goal
 
 pub returns-in-Ok-clause-made : goal.returns-in-Ok-clause-made
@@ -28,3 +32,8 @@ returns-in-Err-clause-refused g c = record {
       subst (λ (end : SessionEnd). RefusedAs c.step.new.self c.args.event end) (sym c.end_of.ensures)
       (refused_as c.step.new.self c.args.event c.in-Err.refused.fault (λ n is. full_here c.args.core.now c.step.new.self c.args.event n c.in-Err.ensures.unchanged (c.in-Err.ensures.full_only n is)));
 }
+
+pub returns-in-Err-clause-over : goal.returns-in-Err-clause-over
+returns-in-Err-clause-over g c =
+    over_found c.args.core.now c.step.new.self c.args.event (stays_near c.args.core.now c.step.new.self c.in-Err.ensures.unchanged)
+    (ap (λ (d : Daemon). closes_place d.past c.args.event) c.in-Err.ensures.unchanged ∙ not_closing (closes_place c.args.core.now.past c.args.event) (Err c.in-Err.refused) c.in-Err.ensures.closing)
