@@ -1,407 +1,253 @@
 #include "exchange.h"
 
-#include <errno.h>
-#include <fcntl.h>
-#include <poll.h>
 #include <pthread.h>
-#include <stdlib.h>
+#include <stdatomic.h>
 #include <string.h>
-#include <sys/socket.h>
-#include <sys/stat.h>
-#include <sys/time.h>
-#include <sys/uio.h>
-#include <sys/un.h>
-#include <time.h>
 #include <unistd.h>
 
+#include "ahead.h"
 #include "replies.h"
 
-#ifndef BIXETHOMI_SOCKET_PATH
-#error "BIXETHOMI_SOCKET_PATH is the daemon's public socket"
-#endif
-
-/* Seconds for a whole question, and of these for being connected. The daemon gives each server 6
- * seconds for each answer and then takes the next, so several silent servers fit. */
+/* Seconds for a whole question. The daemon gives each server 6 seconds for each answer and then takes the next, so several silent
+ * servers fit. */
 #ifndef BIXETHOMI_QUESTION_SECONDS
 #define BIXETHOMI_QUESTION_SECONDS 60
 #endif
-#ifndef BIXETHOMI_CONNECT_SECONDS
-#define BIXETHOMI_CONNECT_SECONDS 10
-#endif
 
-static const int64_t nanoseconds_of_second = 1000000000;
+/* What this process keeps between two questions: one connection, so that other threads make their own meanwhile. A child that was
+ * forked has its parent's, and uses nothing of it. */
+static struct conversation kept;
 
-/* A reply to a request that was sent ahead answers no question that comes later than this. */
-enum { LONGEST_AHEAD_NANOSECONDS = 20000000 };
+/* The process of the thread that uses it now; 0 where none does. */
+static _Atomic pid_t keeper;
 
-/* Where a request has its command: behind its length. */
-enum { COMMAND_PLACE = 4 };
-
-static int64_t monotonic_now(void)
+static void end_conversation(struct conversation *conversation)
 {
-    struct timespec now;
-
-    if (clock_gettime(CLOCK_MONOTONIC, &now) != 0)
-        return INT64_MAX;
-    return now.tv_sec * nanoseconds_of_second + now.tv_nsec;
+    connection_end(&conversation->connection);
+    recent_forget_awaited(&conversation->recent);
 }
 
-static int64_t time_left(int64_t deadline)
+/* Whether there is a connection. One whose descriptor is not its own any more is no more, and nothing of it is closed. */
+static bool has_connection(struct conversation *conversation)
 {
-    int64_t now = monotonic_now();
-
-    return now < deadline ? deadline - now : 0;
+    if (connection_is_its_own(&conversation->connection))
+        return true;
+    conversation->connection.is_open = false;
+    recent_forget_awaited(&conversation->recent);
+    return false;
 }
 
-static bool socket_address(struct sockaddr_un *address)
+/* The process uses nothing of what is there, and closes its descriptor. */
+static void begin_anew(struct conversation *conversation, pid_t process)
 {
-    const char *path = BIXETHOMI_SOCKET_PATH;
-
-#ifdef BIXETHOMI_TEST_BUILD
-    /* Nothing, where the program has more rights than who started it. */
-    const char *other = secure_getenv("BIXETHOMI_SOCKET");
-
-    if (other != NULL)
-        path = other;
-#endif
-    memset(address, 0, sizeof *address);
-    address->sun_family = AF_UNIX;
-    if (strlen(path) >= sizeof address->sun_path)
-        return false;
-    strcpy(address->sun_path, path);
-    return true;
+    if (has_connection(conversation))
+        connection_end(&conversation->connection);
+    recent_forget(&conversation->recent);
+    conversation->connection.process = process;
 }
 
-/* A process that closed its standard streams must not find the socket in their place. */
-static int above_standard_streams(int descriptor)
+/* The kept conversation, which is nobody else's then; a null pointer where another thread has it. A thread of the parent, from
+ * before this process was forked, has nothing here. */
+static struct conversation *take_kept(pid_t process)
 {
-    int moved;
+    pid_t other = 0;
 
-    if (descriptor < 0 || descriptor > STDERR_FILENO)
-        return descriptor;
-    moved = fcntl(descriptor, F_DUPFD_CLOEXEC, STDERR_FILENO + 1);
-    close(descriptor);
-    return moved;
+    if (!atomic_compare_exchange_strong(&keeper, &other, process)
+        && (other == process || !atomic_compare_exchange_strong(&keeper, &other, process)))
+        return NULL;
+    if (kept.connection.process != process)
+        begin_anew(&kept, process);
+    return &kept;
 }
 
-/* While the daemon's queue of connections is full, connecting waits at most this long. */
-static bool bound_connecting(int descriptor, int64_t left)
+static void give_kept_back(void)
 {
-    struct timeval bound = {
-        .tv_sec = left / nanoseconds_of_second,
-        /* No time at all would mean no bound. */
-        .tv_usec = left % nanoseconds_of_second / 1000 + 1,
-    };
-
-    if (bound.tv_usec > 999999)
-        bound.tv_usec = 999999;
-    return setsockopt(descriptor, SOL_SOCKET, SO_SNDTIMEO, &bound, sizeof bound) == 0;
-}
-
-static enum exchange_end connect_to_daemon(int descriptor)
-{
-    int64_t deadline = monotonic_now() + BIXETHOMI_CONNECT_SECONDS * nanoseconds_of_second;
-    struct sockaddr_un address;
-
-    if (!socket_address(&address))
-        return EXCHANGE_NO_DAEMON;
-    for (;;) {
-        int64_t left = time_left(deadline);
-
-        if (left == 0 || !bound_connecting(descriptor, left))
-            return EXCHANGE_LATE;
-        if (connect(descriptor, (const struct sockaddr *)&address, sizeof address) == 0)
-            return EXCHANGE_WELL;
-        if (errno == EAGAIN)
-            return EXCHANGE_LATE;
-        if (errno != EINTR)
-            return EXCHANGE_NO_DAEMON;
-    }
-}
-
-/* A lookup that the daemon makes, of a server's name, must not wait for the daemon. */
-static bool is_own_socket(const struct connection *connection)
-{
-    struct ucred peer;
-    socklen_t size = sizeof peer;
-
-    if (getsockopt(connection->descriptor, SOL_SOCKET, SO_PEERCRED, &peer, &size) != 0)
-        return false;
-    return peer.pid == connection->process;
-}
-
-static enum exchange_end wait_for(const struct exchange *exchange, short event)
-{
-    struct pollfd waited = { .fd = exchange->connection.descriptor, .events = event };
-
-    for (;;) {
-        int64_t left = time_left(exchange->deadline);
-        int ready;
-
-        if (left == 0)
-            return EXCHANGE_LATE;
-        ready = poll(&waited, 1, (int)(left / 1000000) + 1);
-        if (ready > 0)
-            return EXCHANGE_WELL;
-        if (ready < 0 && errno != EINTR)
-            return EXCHANGE_STARVED;
-    }
-}
-
-static enum exchange_end send_bytes(const struct exchange *exchange, const unsigned char *bytes, size_t length)
-{
-    size_t sent = 0;
-
-    while (sent < length) {
-        ssize_t count = send(exchange->connection.descriptor, bytes + sent, length - sent, MSG_NOSIGNAL | MSG_DONTWAIT);
-
-        if (count >= 0) {
-            sent += (size_t)count;
-        } else if (errno == EAGAIN) {
-            enum exchange_end end = wait_for(exchange, POLLOUT);
-
-            if (end != EXCHANGE_WELL)
-                return end;
-        } else if (errno != EINTR) {
-            return EXCHANGE_BROKEN;
-        }
-    }
-    return EXCHANGE_WELL;
-}
-
-/* Takes at least one byte into the parts, in order. */
-static enum exchange_end receive(const struct exchange *exchange, struct iovec *parts, size_t count, size_t *taken)
-{
-    for (;;) {
-        struct msghdr message = { .msg_iov = parts, .msg_iovlen = count };
-        /* Should descriptors come with the bytes, they are not taken: there is no room for them. */
-        ssize_t bytes = recvmsg(exchange->connection.descriptor, &message, MSG_DONTWAIT | MSG_CMSG_CLOEXEC);
-
-        if (bytes > 0) {
-            *taken = (size_t)bytes;
-            return EXCHANGE_WELL;
-        }
-        if (bytes == 0 || (errno != EAGAIN && errno != EINTR))
-            return EXCHANGE_BROKEN;
-        if (errno == EAGAIN) {
-            enum exchange_end end = wait_for(exchange, POLLIN);
-
-            if (end != EXCHANGE_WELL)
-                return end;
-        }
-    }
-}
-
-/* The length of the reply, with what came of its text. Where other replies come behind it, bytes of theirs are not
- * taken with it. */
-static enum exchange_end receive_front(struct exchange *exchange, char *text, size_t room)
-{
-    unsigned char header[4];
-    size_t have = 0;
-
-    exchange->length = 0;
-    while (have < sizeof header) {
-        struct iovec parts[2] = {
-            { .iov_base = header + have, .iov_len = sizeof header - have },
-            { .iov_base = text, .iov_len = room },
-        };
-        size_t taken = 0;
-        enum exchange_end end = receive(exchange, parts, exchange->connection.ahead.count > 0 ? 1 : 2, &taken);
-
-        if (end != EXCHANGE_WELL)
-            return end;
-        have += taken;
-    }
-    for (size_t i = 0; i < sizeof header; i++)
-        exchange->length = exchange->length << 8 | header[i];
-    exchange->received = have - sizeof header;
-    if (exchange->length > LONGEST_REPLY || exchange->received > exchange->length)
-        return EXCHANGE_BROKEN;
-    return EXCHANGE_WELL;
-}
-
-/* The connection that this process keeps between two questions: one, so that other threads make their own
- * meanwhile. It is told by its file, since a program may close descriptors that are not its own and open
- * others under their numbers, and by the process, since a child that was forked has its parent's. */
-static struct {
-    pthread_mutex_t lock;
-    struct connection connection;
-} kept = { .lock = PTHREAD_MUTEX_INITIALIZER, .connection = { .descriptor = -1 } };
-
-static const struct connection no_connection = { .descriptor = -1 };
-
-static bool is_its_file(const struct connection *connection)
-{
-    struct stat status;
-
-    return fstat(connection->descriptor, &status) == 0 && S_ISSOCK(status.st_mode)
-        && status.st_dev == connection->device && status.st_ino == connection->file;
-}
-
-static void end_connection(struct connection *connection)
-{
-    if (connection->descriptor >= 0)
-        close(connection->descriptor);
-    *connection = no_connection;
-}
-
-/* The kept connection, which is nobody else's then; none where none is kept. */
-static struct connection take_kept(void)
-{
-    struct connection taken;
-
-    /* In a child of a thread that held the lock it stays held. */
-    if (pthread_mutex_trylock(&kept.lock) != 0)
-        return no_connection;
-    taken = kept.connection;
-    kept.connection = no_connection;
-    pthread_mutex_unlock(&kept.lock);
-    if (taken.descriptor < 0 || !is_its_file(&taken))
-        return no_connection;
-    if (taken.process != getpid())
-        end_connection(&taken);
-    return taken;
-}
-
-/* Whether the connection is kept: not where another is. */
-static bool keep(const struct connection *connection)
-{
-    bool is_kept = false;
-
-    if (pthread_mutex_trylock(&kept.lock) != 0)
-        return false;
-    if (kept.connection.descriptor < 0) {
-        kept.connection = *connection;
-        is_kept = true;
-    }
-    pthread_mutex_unlock(&kept.lock);
-    return is_kept;
+    atomic_store(&keeper, 0);
 }
 
 /* A program that unloads the module has no descriptor left of it. */
 __attribute__((destructor)) static void close_kept(void)
 {
-    struct connection connection = take_kept();
+    struct conversation *conversation = take_kept(getpid());
 
-    end_connection(&connection);
+    if (conversation == NULL)
+        return;
+    begin_anew(conversation, 0);
+    give_kept_back();
 }
 
-static enum exchange_end ask(struct exchange *exchange, const struct request *request, char *text, size_t room)
+/* Answers without a form, and those that a moment may change, are given once. */
+static bool is_lasting(const struct recent *recent, const struct recent_question *question)
 {
-    enum exchange_end end = send_bytes(exchange, request->bytes, request->length);
+    enum saying saying = read_lookup((const char *)recent->bytes + question->text, question->length).saying;
 
-    return end == EXCHANGE_WELL ? receive_front(exchange, text, room) : end;
+    return saying == SAYS_FOUND || saying == SAYS_ABSENT;
 }
 
-static enum exchange_end open_connection(struct connection *connection)
+static enum exchange_end give(struct exchange *exchange, struct recent_question *question)
 {
-    struct stat status;
-    enum exchange_end end;
+    struct recent *recent = &exchange->conversation->recent;
 
-    connection->descriptor = above_standard_streams(socket(AF_UNIX, SOCK_STREAM | SOCK_CLOEXEC, 0));
-    if (connection->descriptor < 0 || fstat(connection->descriptor, &status) != 0)
-        return EXCHANGE_STARVED;
-    connection->device = status.st_dev;
-    connection->file = status.st_ino;
-    connection->process = getpid();
-    end = connect_to_daemon(connection->descriptor);
-    return end == EXCHANGE_WELL && is_own_socket(connection) ? EXCHANGE_NO_DAEMON : end;
+    exchange->question = question;
+    exchange->was_given_before = question->is_given;
+    exchange->front = recent->bytes + question->text;
+    exchange->front_length = question->length;
+    exchange->length = question->length;
+    if (!is_lasting(recent, question))
+        question->request_length = 0;
+    return EXCHANGE_WELL;
 }
 
-static bool is_number_of_group(const struct request *request)
+static enum exchange_end give_long(struct exchange *exchange, size_t length)
 {
-    return request->bytes[COMMAND_PLACE] == COMMAND_GID;
+    if (length > LONGEST_REPLY)
+        return EXCHANGE_BROKEN;
+    exchange->length = length;
+    exchange->front_length = recent_pass_long(&exchange->conversation->recent, &exchange->front);
+    return EXCHANGE_WELL;
 }
 
-/* Takes the whole reply that comes next, and drops it. */
-static enum exchange_end drop_reply(struct exchange *exchange)
+/* Takes a reply that nobody asked for yet and that has no room, and drops it. */
+static enum exchange_end drop_long(struct exchange *exchange, size_t length, int64_t deadline)
 {
-    char piece[512];
-    enum exchange_end end = receive_front(exchange, piece, sizeof piece);
+    const unsigned char *front;
+    size_t left = length - recent_pass_long(&exchange->conversation->recent, &front);
+    enum exchange_end end = EXCHANGE_WELL;
 
-    while (end == EXCHANGE_WELL && exchange->received < exchange->length) {
+    while (end == EXCHANGE_WELL && left > 0) {
+        unsigned char piece[512];
         size_t taken = 0;
 
-        end = exchange_take(exchange, piece, sizeof piece, &taken);
+        end = connection_receive(&exchange->conversation->connection, piece, left < sizeof piece ? left : sizeof piece, deadline, &taken);
+        left -= taken;
     }
     return end;
 }
 
-/* The front of the reply to a request that was sent ahead: those in front of it are dropped. */
-static enum exchange_end take_ahead(struct exchange *exchange, const struct request *request, char *text, size_t room)
+static enum exchange_end receive_replies(struct exchange *exchange, int64_t deadline)
 {
-    struct ahead *ahead = &exchange->connection.ahead;
+    struct recent *recent = &exchange->conversation->recent;
+    unsigned char *place;
+    size_t room = recent_place(recent, &place);
+    size_t taken = 0;
+    enum exchange_end end = connection_receive(&exchange->conversation->connection, place, room, deadline, &taken);
 
-    while (ahead->count > 0) {
-        bool is_asked = memcmp(ahead->requests[ahead->first], request->bytes, NUMBER_REQUEST) == 0;
-        enum exchange_end end;
-
-        ahead->first++;
-        ahead->count--;
-        end = is_asked ? receive_front(exchange, text, room) : drop_reply(exchange);
-        if (is_asked || end != EXCHANGE_WELL)
-            return end;
-    }
-    return EXCHANGE_BROKEN;
+    if (end != EXCHANGE_WELL)
+        return end;
+    return recent_put(recent, taken) ? EXCHANGE_WELL : EXCHANGE_BROKEN;
 }
 
-/* Whether the request was sent ahead, a moment ago. */
-static bool was_sent_ahead(const struct ahead *ahead, const struct request *request)
+/* Replies that nobody asked for yet, in front of the one that is asked for, are waited for only as long as they are recent: a
+ * question over another connection does not wait for them. */
+static enum exchange_end take_in_front(struct exchange *exchange)
 {
-    if (!is_number_of_group(request) || monotonic_now() - ahead->sent > LONGEST_AHEAD_NANOSECONDS)
-        return false;
-    for (size_t i = ahead->first; i < ahead->first + ahead->count; i++)
-        if (memcmp(ahead->requests[i], request->bytes, NUMBER_REQUEST) == 0)
-            return true;
-    return false;
-}
-
-/* Asks over the kept connection, where it has no replies on their way but this question's. */
-static enum exchange_end ask_kept(struct exchange *exchange, const struct request *request, char *text, size_t room)
-{
-    const struct ahead *ahead = &exchange->connection.ahead;
-
-    if (ahead->count == 0)
-        return ask(exchange, request, text, room);
-    return was_sent_ahead(ahead, request) ? take_ahead(exchange, request, text, room) : EXCHANGE_BROKEN;
-}
-
-static enum exchange_end ask_over(struct exchange *exchange, const struct request *request, char *text, size_t room)
-{
+    struct recent *recent = &exchange->conversation->recent;
+    int64_t deadline = moment_now() + recent->questions[recent->answered].sent + BIXETHOMI_RECENT_NANOSECONDS - exchange->now;
+    size_t length;
     enum exchange_end end;
 
-    if (exchange->connection.descriptor >= 0) {
-        end = ask_kept(exchange, request, text, room);
+    if (deadline > exchange->deadline)
+        deadline = exchange->deadline;
+    end = recent_is_long(recent, &length) ? drop_long(exchange, length, deadline) : receive_replies(exchange, deadline);
+    return end == EXCHANGE_LATE ? EXCHANGE_BROKEN : end;
+}
+
+/* Takes the replies up to that of the question behind which so many others are on their way. */
+static enum exchange_end await(struct exchange *exchange, size_t behind)
+{
+    struct recent *recent = &exchange->conversation->recent;
+    enum exchange_end end = EXCHANGE_WELL;
+
+    while (end == EXCHANGE_WELL && recent->count - recent->answered > behind) {
+        size_t length;
+
+        if (recent->count - recent->answered > behind + 1)
+            end = take_in_front(exchange);
+        else if (recent_is_long(recent, &length))
+            return give_long(exchange, length);
+        else
+            end = receive_replies(exchange, exchange->deadline);
+    }
+    return end == EXCHANGE_WELL ? give(exchange, &recent->questions[recent->count - 1 - behind]) : end;
+}
+
+static enum exchange_end ask(struct exchange *exchange, const struct request *request)
+{
+    struct conversation *conversation = exchange->conversation;
+    /* Of what is asked once nothing is to be found again. */
+    size_t known = exchange->use == CONNECTION_KEPT ? request->length : 0;
+    enum exchange_end end = EXCHANGE_BROKEN;
+
+    if (recent_add(&conversation->recent, request->bytes, known, exchange->now) != NULL)
+        end = connection_send(&conversation->connection, request->bytes, request->length, exchange->deadline);
+    return end == EXCHANGE_WELL ? await(exchange, 0) : end;
+}
+
+/* Asks over the kept connection, or takes the reply that is on its way there. */
+static enum exchange_end ask_kept(struct exchange *exchange, const struct request *request, const struct recent_question *known)
+{
+    const struct recent *recent = &exchange->conversation->recent;
+
+    if (known == NULL)
+        return ask(exchange, request);
+    return await(exchange, recent->count - 1 - (size_t)(known - recent->questions));
+}
+
+static enum exchange_end ask_over(struct exchange *exchange, const struct request *request)
+{
+    struct conversation *conversation = exchange->conversation;
+    struct recent *recent = &conversation->recent;
+    struct recent_question *known = recent_find(recent, request->bytes, request->length, exchange->now);
+    enum exchange_end end;
+
+    if (known != NULL && (size_t)(known - recent->questions) < recent->answered)
+        return give(exchange, known);
+    if (has_connection(conversation)) {
+        end = ask_kept(exchange, request, known);
         if (end != EXCHANGE_BROKEN)
             return end;
-        /* The daemon ended it, or is another one by now, or other replies are on their way. */
-        end_connection(&exchange->connection);
+        end_conversation(conversation);
     }
-    end = open_connection(&exchange->connection);
-    return end == EXCHANGE_WELL ? ask(exchange, request, text, room) : end;
+    end = connection_open(&conversation->connection, conversation->connection.process);
+    return end == EXCHANGE_WELL ? ask(exchange, request) : end;
 }
 
-enum exchange_end exchange_open(struct exchange *exchange, enum connection_use use, const struct request *request, char *text,
-                                size_t room)
+enum exchange_end exchange_open(struct exchange *exchange, enum connection_use use, const struct request *request)
 {
-    enum exchange_end end;
+    pid_t process = getpid();
 
-    *exchange = (struct exchange){ .use = use, .connection = no_connection };
-    exchange->deadline = monotonic_now() + BIXETHOMI_QUESTION_SECONDS * nanoseconds_of_second;
+    exchange->use = use;
+    exchange->question = NULL;
+    exchange->front_length = 0;
+    exchange->length = 0;
+    exchange->received = 0;
+    exchange->deadline = moment_after(BIXETHOMI_QUESTION_SECONDS);
+    exchange->now = recent_now();
     pthread_setcancelstate(PTHREAD_CANCEL_DISABLE, &exchange->cancel_state);
-    if (use == CONNECTION_KEPT)
-        exchange->connection = take_kept();
-    end = ask_over(exchange, request, text, room);
-    exchange->connection.names_groups |= is_number_of_group(request);
-    return end;
+    exchange->conversation = use == CONNECTION_KEPT ? take_kept(process) : NULL;
+    if (exchange->conversation == NULL) {
+        exchange->conversation = &exchange->own;
+        exchange->own.connection = (struct connection){ .process = process };
+        recent_forget(&exchange->own.recent);
+    }
+    recent_age(&exchange->conversation->recent, exchange->now);
+    return ask_over(exchange, request);
 }
 
 enum exchange_end exchange_take(struct exchange *exchange, char *piece, size_t room, size_t *taken)
 {
     size_t left = exchange->length - exchange->received;
-    struct iovec part = { .iov_base = piece, .iov_len = room < left ? room : left };
-    enum exchange_end end = receive(exchange, &part, 1, taken);
+    size_t wanted = room < left ? room : left;
+    enum exchange_end end = EXCHANGE_WELL;
 
+    if (exchange->received < exchange->front_length) {
+        size_t there = exchange->front_length - exchange->received;
+
+        *taken = wanted < there ? wanted : there;
+        memcpy(piece, exchange->front + exchange->received, *taken);
+    } else {
+        end = connection_receive(&exchange->conversation->connection, piece, wanted, exchange->deadline, taken);
+    }
     if (end == EXCHANGE_WELL)
         exchange->received += *taken;
     return end;
@@ -419,34 +265,42 @@ enum exchange_end exchange_fill(struct exchange *exchange, char *text, size_t wa
     return EXCHANGE_WELL;
 }
 
+/* Sends what is asked next, without a wait. */
+static void ask_ahead(struct exchange *exchange)
+{
+    struct conversation *conversation = exchange->conversation;
+    struct recent_question *question = exchange->question;
+    unsigned char requests[LONGEST_AHEAD];
+    size_t length = 0;
+
+    if (question != NULL && exchange->was_given_before && !question->is_followed) {
+        question->is_followed = true;
+        length = ahead_of_user(&conversation->recent, question, exchange->now, requests);
+    }
+    if (length == 0)
+        length = ahead_of_groups(&conversation->recent, exchange->now, requests);
+    if (length > 0 && has_connection(conversation) && !connection_send_at_once(&conversation->connection, requests, length))
+        end_conversation(conversation);
+}
+
 /* Of a reply that was not taken whole the rest would be taken for the next one. */
 static bool is_whole(const struct exchange *exchange)
 {
-    return exchange->use == CONNECTION_KEPT && exchange->length > 0 && exchange->received == exchange->length;
-}
-
-void exchange_ask_ahead(struct exchange *exchange, const uint32_t *groups, size_t count)
-{
-    struct ahead *ahead = &exchange->connection.ahead;
-    struct request request;
-
-    if (!exchange->connection.names_groups || !is_whole(exchange) || ahead->count > 0)
-        return;
-    ahead->first = 0;
-    for (size_t i = 0; i < count && i < MOST_AHEAD; i++)
-        if (request_by_number(&request, COMMAND_GID, groups[i]))
-            memcpy(ahead->requests[ahead->count++], request.bytes, NUMBER_REQUEST);
-    ahead->sent = monotonic_now();
-    if (send_bytes(exchange, ahead->requests[0], ahead->count * NUMBER_REQUEST) != EXCHANGE_WELL)
-        end_connection(&exchange->connection);
+    return exchange->question != NULL || (exchange->length > 0 && exchange->received == exchange->length);
 }
 
 void exchange_close(struct exchange *exchange)
 {
+    struct conversation *conversation = exchange->conversation;
     int ignored;
 
-    if (!(is_whole(exchange) && keep(&exchange->connection)))
-        end_connection(&exchange->connection);
-    exchange->connection = no_connection;
+    if (exchange->question != NULL && exchange->received == exchange->length)
+        exchange->question->is_given = true;
+    if (conversation != &kept || !is_whole(exchange))
+        end_conversation(conversation);
+    else
+        ask_ahead(exchange);
+    if (conversation == &kept)
+        give_kept_back();
     pthread_setcancelstate(exchange->cancel_state, &ignored);
 }

@@ -103,7 +103,7 @@ static struct outcome ask_record(const struct request *request, char *buffer, si
     struct lookup_reply reply;
     struct outcome outcome;
 
-    outcome = outcome_of_end(exchange_open(&exchange, CONNECTION_KEPT, request, buffer, room));
+    outcome = outcome_of_end(exchange_open(&exchange, CONNECTION_KEPT, request));
     if (outcome.status == NSS_STATUS_SUCCESS && exchange.length > room)
         outcome = buffer_too_small;
     if (outcome.status == NSS_STATUS_SUCCESS)
@@ -313,19 +313,6 @@ static struct outcome read_gids(struct exchange *exchange, char *piece, size_t r
     return outcome.status == NSS_STATUS_SUCCESS ? add_last_gid(list, &reader) : outcome;
 }
 
-/* Asks for the names of the user's groups, before the caller does. */
-static void ask_ahead(struct exchange *exchange, gid_t first, const gid_t *others, size_t count)
-{
-    uint32_t groups[MOST_AHEAD];
-    size_t asked = 0;
-
-    if (is_account_number(first))
-        groups[asked++] = first;
-    for (size_t i = 0; i < count && asked < MOST_AHEAD; i++)
-        groups[asked++] = others[i];
-    exchange_ask_ahead(exchange, groups, asked);
-}
-
 enum nss_status _nss_bixethomi_initgroups_dyn(const char *name, gid_t skipped, long *start, long *size, gid_t **gids,
                                               long limit, int *error)
 {
@@ -336,13 +323,11 @@ enum nss_status _nss_bixethomi_initgroups_dyn(const char *name, gid_t skipped, l
     if (is_asked(name) && request_by_name(&request, COMMAND_GROUPS_OF_USER, name)) {
         struct gid_list list = { .gids = gids, .size = size, .count = *start, .limit = limit, .skipped = skipped };
         struct exchange exchange;
-        char piece[4096];
+        char piece[1024];
 
-        outcome = outcome_of_end(exchange_open(&exchange, CONNECTION_KEPT, &request, piece, sizeof piece));
+        outcome = outcome_of_end(exchange_open(&exchange, CONNECTION_KEPT, &request));
         if (outcome.status == NSS_STATUS_SUCCESS)
             outcome = read_gids(&exchange, piece, sizeof piece, name, &list);
-        if (outcome.status == NSS_STATUS_SUCCESS)
-            ask_ahead(&exchange, skipped, *gids + *start, (size_t)(list.count - *start));
         exchange_close(&exchange);
         /* Of a reply that is not whole no group is given. */
         if (outcome.status == NSS_STATUS_SUCCESS)

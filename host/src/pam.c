@@ -110,7 +110,7 @@ static enum exchange_end take_rest(struct exchange *exchange)
 static enum exchange_end ask(const struct request *request, char text[PIECE], size_t *length, bool *is_whole)
 {
     struct exchange exchange;
-    enum exchange_end end = exchange_open(&exchange, CONNECTION_OF_ITS_OWN, request, text, PIECE);
+    enum exchange_end end = exchange_open(&exchange, CONNECTION_OF_ITS_OWN, request);
 
     if (end == EXCHANGE_WELL) {
         *is_whole = exchange.length <= PIECE;

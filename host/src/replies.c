@@ -439,6 +439,30 @@ enum reading read_group(char *buffer, size_t line, size_t length, size_t room, s
     return list_members(names, count, fields.out, buffer + room, &group->gr_mem);
 }
 
+static bool skip_field(struct cursor *cursor)
+{
+    while (!is_at_end(cursor) && *cursor->at != ':')
+        if (take_field_byte(cursor) < 0)
+            return false;
+    return take_text(cursor, ":");
+}
+
+bool read_user_numbers(const char *text, size_t length, uint32_t *uid, uint32_t *gid)
+{
+    struct lookup_reply reply = read_lookup(text, length);
+    struct cursor cursor = cursor_over(text, reply.line, length);
+    uint64_t numbers[2];
+
+    if (reply.saying != SAYS_FOUND || !skip_field(&cursor) || !skip_field(&cursor))
+        return false;
+    for (size_t i = 0; i < 2; i++)
+        if (!take_number(&cursor, UINT32_MAX, &numbers[i]) || !take_text(&cursor, ":"))
+            return false;
+    *uid = (uint32_t)numbers[0];
+    *gid = (uint32_t)numbers[1];
+    return true;
+}
+
 enum reading read_groups_name(const char *text, size_t length, size_t *at, const char *name)
 {
     struct cursor cursor = cursor_over(text, *at, length);
@@ -490,4 +514,26 @@ enum gid_reading last_gid(struct gid_reader *reader, uint32_t *gid)
     *gid = (uint32_t)reader->number;
     *reader = (struct gid_reader){ .is_after_comma = false };
     return GID_READ;
+}
+
+size_t read_first_groups(const char *text, size_t length, uint32_t *groups, size_t most)
+{
+    struct lookup_reply reply = read_lookup(text, length);
+    struct cursor cursor = cursor_over(text, reply.line, length);
+    struct gid_reader reader = { .digits = 0 };
+    enum gid_reading reading = GID_READ;
+    size_t count = 0;
+    size_t at;
+
+    if (reply.saying != SAYS_FOUND || !skip_field(&cursor))
+        return 0;
+    at = (size_t)(cursor.at - text);
+    while (count < most && reading == GID_READ) {
+        reading = next_gid(&reader, text, length, &at, &groups[count]);
+        if (reading == GID_NEEDS_MORE && last_gid(&reader, &groups[count]) == GID_READ)
+            count++;
+        if (reading == GID_READ)
+            count++;
+    }
+    return count;
 }

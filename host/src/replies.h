@@ -77,6 +77,9 @@ enum saying read_access(const char *text, size_t length, bool is_whole);
 enum reading read_user(char *buffer, size_t line, size_t length, size_t room, struct passwd *user);
 enum reading read_group(char *buffer, size_t line, size_t length, size_t room, struct group *group);
 
+/* The numbers of a found user; false where the line does not begin as a user's. */
+bool read_user_numbers(const char *text, size_t length, uint32_t *uid, uint32_t *gid);
+
 /* The groups of a user, read piece by piece: first the name in front of the colon, then the gids.
  * The text is in `text` from `*at` on; the whole name has to be in the piece. On READ `*at` is behind
  * the colon, and the name is compared with `name` byte for byte: BAD where it is another. */
@@ -95,5 +98,8 @@ enum gid_reading next_gid(struct gid_reader *reader, const char *piece, size_t l
 
 /* At the end of the text: the last gid, where there is one. GID_NEEDS_MORE: there is none. */
 enum gid_reading last_gid(struct gid_reader *reader, uint32_t *gid);
+
+/* Of a whole reply the first groups, at most `most`; none where it is no list of groups. */
+size_t read_first_groups(const char *text, size_t length, uint32_t *groups, size_t most);
 
 #endif

@@ -270,7 +270,7 @@ def send_reply(connection, text, behaviour):
     elif word == "slow":
         for at in range(len(whole)):
             connection.sendall(whole[at:at + 1])
-            time.sleep(int(rest) / 1000)
+            time.sleep(float(rest) / 1000)
         return True
     elif word == "silent":
         time.sleep(3600)

@@ -99,6 +99,26 @@ static void try_gids(uint64_t *state, const char *text, size_t length, unsigned 
     free(block);
 }
 
+/* What is read of a reply before anybody asks for it: it says no more than the readers of whole replies do. */
+static void try_ahead(const char *text, size_t length, unsigned long turn)
+{
+    char *block = malloc(length + 1);
+    uint32_t groups[4];
+    uint32_t uid = 0;
+    uint32_t gid = 0;
+    struct passwd user;
+    struct lookup_reply reply;
+
+    if (block == NULL)
+        abort();
+    memcpy(block, text, length);
+    reply = read_lookup(block, length);
+    demand(read_first_groups(block, length, groups, 4) <= 4, "first groups", turn);
+    if (read_user_numbers(block, length, &uid, &gid) && read_user(block, reply.line, length, length, &user) == READ)
+        demand(user.pw_uid == uid && user.pw_gid == gid, "a user's numbers", turn);
+    free(block);
+}
+
 static void try_words(const char *text, size_t length, bool is_whole)
 {
     char *block = malloc(length + 1);
@@ -127,6 +147,7 @@ int main(int count, char **words)
         try_user(text, length, room, turn);
         try_group(text, length, room, turn);
         try_gids(&state, text, length, turn);
+        try_ahead(text, length, turn);
         try_words(text, length, random_below(&state, 4) != 0);
     }
     printf("%lu mutated replies\n", turns);

@@ -1,5 +1,5 @@
 /* storm mutated COUNT SEED: asks the NSS calls, linked into this program with a sanitizer, COUNT times
- * over a socket whose other end answers with mutated replies.
+ * over a socket whose other end answers with mutated replies, also those that were asked ahead.
  * storm honest COUNT: eight threads ask COUNT times each, and every answer has to be the right one.
  *
  * The other end is a child of this program; the socket is named by BIXETHOMI_SOCKET. */
@@ -46,8 +46,8 @@ static int listen_at(const char *path)
     return listener;
 }
 
-/* The length in front is right as a rule, sometimes one off, sometimes any. */
-static void put_length(uint64_t *state, unsigned char header[4], size_t length)
+/* The length in front is right as a rule, sometimes one off, sometimes any. Whether it is right. */
+static bool put_length(uint64_t *state, unsigned char header[4], size_t length)
 {
     size_t said = length;
     size_t kind = random_below(state, 40);
@@ -60,6 +60,7 @@ static void put_length(uint64_t *state, unsigned char header[4], size_t length)
         said = length - 1;
     for (int i = 0; i < 4; i++)
         header[i] = (unsigned char)(said >> (24 - 8 * i));
+    return said == length;
 }
 
 /* Sends a reply in up to three pieces. What the asker does not take any more is nobody's loss. */
@@ -90,29 +91,79 @@ static size_t right_reply(const unsigned char *request, char text[LONGEST_MUTATE
     return strlen(reply);
 }
 
+/* One of any form, or the right one, changed or not. */
+static size_t mutated_reply(uint64_t *state, const unsigned char *request, char text[LONGEST_MUTATED])
+{
+    size_t length;
+
+    if (random_below(state, 2) == 0)
+        return mutate(state, LOOKUP_REPLIES, text);
+    length = right_reply(request, text);
+    return random_below(state, 2) == 0 ? length : change(state, text, length);
+}
+
+struct conversation_end {
+    int connection;
+    bool is_honest;
+    uint64_t state;
+};
+
+/* Whether the connection goes on: not always where replies are mutated, and not behind a wrong length. */
+static bool answer(struct conversation_end *end, const unsigned char *request)
+{
+    unsigned char reply[4 + LONGEST_MUTATED];
+    char text[LONGEST_MUTATED];
+    size_t length = end->is_honest ? right_reply(request, text) : mutated_reply(&end->state, request, text);
+    bool is_right = true;
+
+    memcpy(reply + 4, text, length);
+    if (end->is_honest)
+        for (int i = 0; i < 4; i++)
+            reply[i] = (unsigned char)(length >> (24 - 8 * i));
+    else
+        is_right = put_length(&end->state, reply, length) && random_below(&end->state, 8) != 0;
+    send_pieces(&end->state, end->connection, reply, 4 + length);
+    return is_right;
+}
+
+static void *converse(void *given)
+{
+    struct conversation_end *end = given;
+    unsigned char requests[2048];
+    size_t have = 0;
+    bool goes_on = true;
+
+    while (goes_on) {
+        ssize_t count = recv(end->connection, requests + have, sizeof requests - have, 0);
+        size_t at = 0;
+
+        if (count <= 0)
+            break;
+        have += (size_t)count;
+        while (goes_on && have - at >= 4 && have - at >= 4 + (size_t)requests[at + 3]) {
+            goes_on = answer(end, requests + at);
+            at += 4 + (size_t)requests[at + 3];
+        }
+        have -= at;
+        memmove(requests, requests + at, have);
+    }
+    close(end->connection);
+    free(end);
+    return NULL;
+}
+
 static void answer_all(int listener, bool is_honest, uint64_t seed)
 {
     uint64_t state = seed;
 
     for (;;) {
-        unsigned char request[2048];
-        unsigned char reply[4 + LONGEST_MUTATED];
-        char text[LONGEST_MUTATED];
         int connection = accept(listener, NULL, NULL);
-        size_t length;
+        struct conversation_end *end = malloc(sizeof *end);
+        pthread_t thread;
 
-        if (connection < 0)
-            continue;
-        if (recv(connection, request, sizeof request, 0) > 0) {
-            length = is_honest ? right_reply(request, text) : mutate(&state, LOOKUP_REPLIES, text);
-            memcpy(reply + 4, text, length);
-            put_length(&state, reply, length);
-            if (is_honest)
-                for (int i = 0; i < 4; i++)
-                    reply[i] = (unsigned char)(length >> (24 - 8 * i));
-            send_pieces(&state, connection, reply, 4 + length);
-        }
-        close(connection);
+        demand(connection >= 0 && end != NULL, "a connection");
+        *end = (struct conversation_end){ connection, is_honest, next_random(&state) };
+        demand(pthread_create(&thread, NULL, converse, end) == 0 && pthread_detach(thread) == 0, "a thread");
     }
 }
 
