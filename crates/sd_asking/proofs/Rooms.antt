@@ -1,7 +1,7 @@
 -- How many bytes replies take at most.
 use Rattle.std.proofs.Common.{ℕ, ◌+◌, ◌^◌, ◌<◌, ◌≤◌, Bool, true, false, List, [], ◌∷◌, ◌++◌, length, map, filter, take, zero, suc, arith, inl, inr}
 use Rattle.std.specs.Int.{w32, to_be_bytes}
-use Rattle.std.proofs.lemmas.Bool.{cases_Bool}
+use Rattle.std.proofs.lemmas.Bool.{cases_Bool, and_parts, ltb-true}
 use Rattle.std.proofs.lemmas.List.{length-append, length-drop}
 use Rattle.sd_ber.specs.Octets.{length_octets, element}
 use Rattle.sd_ber.proofs.Lengths.{spelled}
@@ -11,8 +11,8 @@ use Rattle.sd_ldap.specs.Values.{bind_response, entry, done, SearchValue}
 use Rattle.sd_ldap.specs.Spelling.{unneeded, octets_of, number_bytes, text_bytes, inside, texts_bytes, attribute_bytes, attributes_bytes, entry_bytes, result_bytes}
 use Rattle.sd_match.specs.Answering.{told, reply, is_sent, sent_values, sent_attribute, sent_attributes, sent}
 use Rattle.sd_dial.specs.Entries.{Framing}
+use Rattle.sd_dial.specs.Rooms.{text_room, texts_room, attribute_room, attributes_room, entry_room, is_short, are_short}
 use Rattle.sd_asking.specs.Sizes.{content_size}
-use Rattle.sd_asking.specs.Rooms.{text_room, texts_room, attribute_room, attributes_room, entry_room, AreShort}
 use Rattle.sd_asking.proofs.Replies.{entry_readable, done_readable, bound_readable}
 use Rattle.sd_asking.proofs.Walk.{IsFramed}
 use Rattle.sd_asking.proofs.Stream.{framed, replies, AreFramed}
@@ -74,6 +74,15 @@ sent_fits s e small =
     omega (arith, length-append (text_bytes 4 e.dn) (inside 48 attributes), i, t, a)
 
 -- ---- all entries
+
+abbrev pub AreShort : List DirEntry → Type 0
+AreShort [] = Unit {0}
+AreShort (e ∷ entries) = (entry_room e + 64 < 2 ^ 32) × AreShort entries
+
+pub short_each : (entries : List DirEntry) → are_short entries ≡ true → AreShort entries
+unfolding are_short
+short_each [] all = tt
+short_each (e ∷ entries) all = let p = and_parts (is_short e) (are_short entries) all in (ltb-true (entry_room e + 64) (2 ^ 32) p.0, short_each entries p.1)
 
 pub short_filtered : (p : DirEntry → Bool) (entries : List DirEntry) → AreShort entries → AreShort (filter p entries)
 short_filtered p [] short = tt

@@ -12,6 +12,7 @@ use Rattle.sd_ldap.specs.Sound.{IsSoundSearch}
 use Rattle.sd_match.specs.Matching.{has_unsupported}
 use Rattle.sd_match.specs.Answering.{told, reply, is_at_or_under, is_found, found, sent, is_past_limit, limited, search_code, search_replies}
 use Rattle.sd_dial.specs.Entries.{Behind, answer_behind}
+use Rattle.sd_dial.specs.Rooms.{are_short}
 use Rattle.sd_dial.specs.declared.searched.Searched.{Searched}
 use Rattle.sd_dial.specs.declared.searched.Searched.TheVariants as searches
 use Rattle.sd_client.specs.declared.step.Request.TheVariants as requests
@@ -20,14 +21,13 @@ use Rattle.sd_client.specs.Deciding as decisions
 use Rattle.sd_client.specs.Replying.{IsFailure}
 use Rattle.sd_client.specs.Talk.{search_message, without_entries, IsSearched, IsUnsearched, failure_by_search}
 use Rattle.sd_asking.specs.Sizes.{content_size, total_size, first_limit}
-use Rattle.sd_asking.specs.Rooms.{AreShort}
 use Rattle.sd_asking.specs.Settled.{IsFailedBy}
 use Rattle.sd_asking.specs.Searching.{ToldReply, entries, failed, entries_sent, code_sent, reply_sizes, by_code, by_limit, told_search, search_reply_size, IsToldFailure, IsToldSearch, HasReply, IsSearchedBy}
 use Rattle.sd_asking.proofs.Replies.{framed_bytes}
 use Rattle.sd_asking.proofs.Walk.{decision_by}
 use Rattle.sd_asking.proofs.Stream.{replies, walk, stream_length}
 use Rattle.sd_asking.proofs.Requests.{answered}
-use Rattle.sd_asking.proofs.Rooms.{AreSmall, short_filtered, short_taken, small_sent, replies_framed}
+use Rattle.sd_asking.proofs.Rooms.{AreShort, AreSmall, short_each, short_filtered, short_taken, small_sent, replies_framed}
 use Rattle.sd_asking.proofs.Arriving.{IsArrived, kept, none_left, IsRestored, restored}
 use Rattle.sd_asking.proofs.Outcomes.{Outcome, IsNothing, IsLimited, IsEnded, by_first, all_within, nothing_comes}
 
@@ -59,7 +59,7 @@ past_few : (past : Bool) → cond past 4 0 < 2 ^ 32
 past_few true = omega arith
 past_few false = omega arith
 
-by_replies : (all : List DirEntry) (id : ℕ) (s : SearchValue) → AreShort all → IsAnswered all id s
+by_replies : (all : List DirEntry) (id : ℕ) (s : SearchValue) → are_short all ≡ true → IsAnswered all id s
 by_replies all id s short =
     let list = found all s in
     let sent_list = map (λ (e : DirEntry). sent s e) (limited s.size list) in
@@ -73,7 +73,7 @@ by_replies all id s short =
               result = result;
               replies_are = rw (known, there) (found_are id result s (limited s.size list));
               told_is = rw (known, there) (past_told (is_past_limit s.size list) s list);
-              small = small_sent s (limited s.size list) (past_short (is_past_limit s.size list) s.size list (short_filtered (λ (e : DirEntry). is_found s e) all short));
+              small = small_sent s (limited s.size list) (past_short (is_past_limit s.size list) s.size list (short_filtered (λ (e : DirEntry). is_found s e) all (short_each all short)));
               few = past_few (is_past_limit s.size list);
             }
             | inr nowhere ↦ record { found_entries = []; result = 32; replies_are = rw (known, nowhere) refl; told_is = rw (known, nowhere) refl; small = tt; few = omega arith }
@@ -95,7 +95,7 @@ size_is : (behind : Behind) (id : ℕ) (s : SearchValue) → search_reply_size b
 unfolding search_reply_size
 size_is behind id s = refl
 
-pub outcome : (behind : Behind) (id : ℕ) (s : SearchValue) (received : List ℕ) → IsSoundSearch s → id ≤ 2147483647 → AreShort behind.entries → length received ≤ 67108864
+pub outcome : (behind : Behind) (id : ℕ) (s : SearchValue) (received : List ℕ) → IsSoundSearch s → id ≤ 2147483647 → are_short behind.entries ≡ true → length received ≤ 67108864
     → Outcome failed by_code (decided requests.Search id (length received) (received ++ answer_behind behind (message_bytes (search_message id s)))) (told_search behind (length received) id s)
     (length (received ++ answer_behind behind (message_bytes (search_message id s)))) (length received + search_reply_size behind id s)
 outcome behind id s received sound small short few =
@@ -238,7 +238,7 @@ same_decision behind id at s received answer at_is answer_is =
 pub record IsAsked (behind : Behind) (id at : ℕ) (s : SearchValue) (received answer : List ℕ) : Type 0 where
   pub sound : IsSoundSearch s
   pub small : id ≤ 2147483647
-  pub short : AreShort behind.entries
+  pub short : are_short behind.entries ≡ true
   pub few : length received ≤ 67108864
   pub at_is : at ≡ length received
   pub answer_is : answer ≡ answer_behind behind (message_bytes (search_message id s))

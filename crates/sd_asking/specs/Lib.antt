@@ -1,5 +1,4 @@
 pub mod Sizes
-pub mod Rooms
 pub mod Settled
 pub mod Searching
 pub mod Binding

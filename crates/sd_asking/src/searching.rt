@@ -9,7 +9,6 @@ ghost use Rattle.sd_client.specs.declared.step.Request.TheVariants as requests;
 ghost use Rattle.sd_client.specs.Deciding.{decided};
 ghost use Rattle.sd_client.specs.Replying.{IsUnsent, IsSent};
 ghost use Rattle.sd_client.specs.Talk.{search_message, IsSearched, IsUnsearched, IsPlacedBySearch, failure_by_search};
-ghost use Rattle.sd_asking.specs.Rooms.{AreShort};
 ghost use Rattle.sd_asking.specs.Settled.{IsSettled, GoesOn};
 ghost use Rattle.sd_asking.specs.Searching.{ToldReply, told_search, search_reply_size, IsToldSearch, HasReply, IsSearchedBy};
 ghost use Rattle.sd_asking.specs.Searching as told;
@@ -43,9 +42,9 @@ pub fn search<L: DirectoryLink>(client: &mut Client<L>, request: &SearchRequest)
     // Where all these bytes are the reply, the client is settled again.
     ensures settles { IsSettled client.old (L.coming client.old.link) → HasReply result → client.new.at ≡ length client.old.received + length (L.answer client.old.link (message_bytes (search_message client.old.next (search_value request.now)))) → length client.old.received + length (L.answer client.old.link (message_bytes (search_message client.old.next (search_value request.now)))) ≤ 67108864 → GoesOn client.old client.new (L.coming client.new.link) (length (L.answer client.old.link (message_bytes (search_message client.old.next (search_value request.now))))) }
     // A link that tells the directory behind it: its entries decide.
-    ensures told { (behind : Behind) → L.behind client.old.link ≡ Some behind → AreShort behind.entries → IsSettled client.old (L.coming client.old.link) → IsToldSearch result (told_search behind (length client.old.received) client.old.next (search_value request.now)) }
-    ensures goes_on { (behind : Behind) → L.behind client.old.link ≡ Some behind → AreShort behind.entries → IsSettled client.old (L.coming client.old.link) → HasReply result → GoesOn client.old client.new (L.coming client.new.link) (search_reply_size behind client.old.next (search_value request.now)) }
-    ensures ends { (behind : Behind) → L.behind client.old.link ≡ Some behind → AreShort behind.entries → IsSettled client.old (L.coming client.old.link) → client.new.next ≡ client.old.next + 1 → L.coming client.new.link ≡ Some [] → result ≡ Searched.Failed Why.Link → told_search behind (length client.old.received) client.old.next (search_value request.now) ≡ told.failed Why.Link }
+    ensures told { (behind : Behind) → L.behind client.old.link ≡ Some behind → IsSettled client.old (L.coming client.old.link) → IsToldSearch result (told_search behind (length client.old.received) client.old.next (search_value request.now)) }
+    ensures goes_on { (behind : Behind) → L.behind client.old.link ≡ Some behind → IsSettled client.old (L.coming client.old.link) → HasReply result → GoesOn client.old client.new (L.coming client.new.link) (search_reply_size behind client.old.next (search_value request.now)) }
+    ensures ends { (behind : Behind) → L.behind client.old.link ≡ Some behind → IsSettled client.old (L.coming client.old.link) → client.new.next ≡ client.old.next + 1 → L.coming client.new.link ≡ Some [] → result ≡ Searched.Failed Why.Link → told_search behind (length client.old.received) client.old.next (search_value request.now) ≡ told.failed Why.Link }
 {
     client.search(request)
 }

@@ -1,3 +1,4 @@
 pub mod Asked
+pub mod Rooms
 pub mod Entries
 pub mod Operations

@@ -1,11 +1,12 @@
 //! Links behind which a directory stands.
-ghost use Rattle.std.specs.Prelude.{◌≡◌, ℕ, List, IsSome, Some, None, refl};
+ghost use Rattle.std.specs.Prelude.{◌≡◌, ℕ, true, List, IsSome, Some, None, refl};
 ghost use Rattle.std.specs.declared.option.Option.{Option};
 ghost use Rattle.sd_ldap.specs.Values.{MessageValue};
 ghost use Rattle.sd_ldap.specs.Spelling.{message_bytes};
 ghost use Rattle.sd_ldap.specs.Sound.{IsSound};
 ghost use Rattle.sd_dial.specs.Asked.{with_message, IsNoMessage};
 ghost use Rattle.sd_dial.specs.Entries.{Behind, HaveOwnDns, answer_behind};
+ghost use Rattle.sd_dial.specs.Rooms.{are_short};
 
 use sd_link::{Link, MemoryLink};
 
@@ -30,6 +31,8 @@ pub trait DirectoryLink: Link {
     ghost tells_pieces: { (link : Self) → IsSome (asked link) → IsSome (Self.sent link) };
     // Who tells the directory tells the bytes to come, and no two of the entries have equal DNs.
     ghost tells_coming: { (link : Self) (told : Behind) → behind link ≡ Some told → IsSome (Self.coming link) × HaveOwnDns told.entries };
+    // Each of the entries told is short: four octets tell the length of a message about it.
+    ghost tells_short: { (link : Self) (told : Behind) → behind link ≡ Some told → are_short told.entries ≡ true };
     // The answer to a piece is that of the directory told.
     ghost answers: { (link : Self) (told : Behind) (piece : List ℕ) → behind link ≡ Some told → Self.answer link piece ≡ answer_behind told piece };
 }
@@ -50,6 +53,8 @@ impl DirectoryLink for MemoryLink {
     ghost tells_pieces = { λ link some. refl };
 
     ghost tells_coming = { λ link told e. Prim.cc };
+
+    ghost tells_short = { λ link told e. Prim.cc };
 
     ghost answers = { λ link told piece e. Prim.cc };
 }

@@ -18,7 +18,6 @@ use Rattle.sd_conf.specs.declared.config.Config.{Config}
 use Rattle.sd_dial.specs.Entries.{Behind}
 use Rattle.sd_dial.specs.Operations.{Operation}
 use Rattle.sd_asking.specs.Binding.{told_bind, IsToldBind}
-use Rattle.sd_asking.specs.Rooms.{AreShort}
 use Rattle.sd_fetch.specs.Lookup.{looked_up}
 use Rattle.sd_fetch.specs.Told.{searches_of, first_failure}
 use Rattle.sd_inquiry.specs.Counting.{HasNotFallen}
@@ -74,7 +73,7 @@ pub record Fetches (config : Config) (key : Key) (server : ℕ) (fetched : Fetch
   pub asked : AsksLookup config key server fetched d.operations e.operations
   pub fallen : fetched ≡ fetches.Failed whys.Link → Rose d.faults e.faults
   pub later : HasNotFallen d.faults e.faults
-  pub told : (b : Behind) → d.behind server ≡ Some b → AreShort b.entries → IsToldFetch fetched (first_failure b 0 1 (searches_of config b.entries key)) (looked_up config b.entries key)
+  pub told : (b : Behind) → d.behind server ≡ Some b → IsToldFetch fetched (first_failure b 0 1 (searches_of config b.entries key)) (looked_up config b.entries key)
   pub behind : (i : ℕ) → e.behind i ≡ d.behind i
 
 -- the bind at a server came to this

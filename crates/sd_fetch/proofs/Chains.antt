@@ -10,7 +10,6 @@ use Rattle.sd_dial.specs.Entries.{Behind}
 use Rattle.sd_dial.specs.declared.searched.Searched.{Searched}
 use Rattle.sd_dial.specs.declared.searched.Searched.TheVariants as searches
 use Rattle.sd_client.specs.Talk.{Talk}
-use Rattle.sd_asking.specs.Rooms.{AreShort}
 use Rattle.sd_nested.specs.declared.searcher.Stop.{Stop}
 use Rattle.sd_nested.specs.declared.searcher.Stop.TheVariants as stops
 use Rattle.sd_nested.specs.Searches.{Question}
@@ -153,7 +152,7 @@ module _ {S N L : Type 0} (t : Telling L) (W : S → nested.Exchange → S → T
 
   -- rounds that went to their end
   pub rounded_all : (a b : S) (tells : List DirEntry → Type 0) (due : List DirEntry → List Question) → stopped a ≡ false → asking.ExchangedOver W a b None tells due
-      → ((bd : Behind) → t.behind (client a).link ≡ Some bd → AreShort bd.entries → IsQuiet t (client a) → tells bd.entries) → Rounded t (base a) (client a) (client b) None due
+      → ((bd : Behind) → t.behind (client a).link ≡ Some bd → IsQuiet t (client a) → tells bd.entries) → Rounded t (base a) (client a) (client b) None due
   rounded_all a b tells due going g told =
       let all = all_went t W name base client stopped shows a g.exchanges b going g.ends g.in_order in
       record {
@@ -161,12 +160,12 @@ module _ {S N L : Type 0} (t : Telling L) (W : S → nested.Exchange → S → T
         in_order = all.in_order;
         ends = all.gave;
         asked = are_questions (base a) g.exchanges;
-        searched = λ bd is short quiet. searches_are (base a) g.exchanges ∙ ap (map (search_for (base a))) (g.asked bd.entries (told bd is short quiet));
+        searched = λ bd is quiet. searches_are (base a) g.exchanges ∙ ap (map (search_for (base a))) (g.asked bd.entries (told bd is quiet));
       }
 
   -- rounds that stopped
   pub rounded_stop : (a b : S) (stop : Stop) (early : Early) (tells : List DirEntry → Type 0) (due : List DirEntry → List Question) → stopped a ≡ false → IsEarly stop early → asking.ExchangedOver W a b (Some stop) tells due
-      → ((bd : Behind) → t.behind (client a).link ≡ Some bd → AreShort bd.entries → IsQuiet t (client a) → tells bd.entries) → Rounded t (base a) (client a) (client b) (Some early) due
+      → ((bd : Behind) → t.behind (client a).link ≡ Some bd → IsQuiet t (client a) → tells bd.entries) → Rounded t (base a) (client a) (client b) (Some early) due
   rounded_stop a b (stops.Code code) early tells due going h g told =
       let last = last_of a b g.exchanges (searches.Code code) going (no_code code) g.ends.2 g.in_order in
       record {
@@ -174,8 +173,8 @@ module _ {S N L : Type 0} (t : Telling L) (W : S → nested.Exchange → S → T
         in_order = last.0;
         ends = ended_by early code g.ends.0 g.ends.1 h (exchanges_of (base a) g.exchanges) last.1;
         asked = are_questions (base a) g.exchanges;
-        searched = λ bd is short quiet.
-            let due_so = g.asked bd.entries (told bd is short quiet) in
+        searched = λ bd is quiet.
+            let due_so = g.asked bd.entries (told bd is quiet) in
             searched_of early (searches_in (exchanges_of (base a) g.exchanges)) (map (search_for (base a)) (due bd.entries)) (map (search_for (base a)) due_so.0) (front_searched (base a) g.exchanges (due bd.entries) due_so.0 due_so.1);
       }
   rounded_stop a b (stops.Failed why) early tells due going h g told =
@@ -186,11 +185,11 @@ module _ {S N L : Type 0} (t : Telling L) (W : S → nested.Exchange → S → T
         in_order = last.0;
         ends = inl last.1;
         asked = are_questions (base a) g.exchanges;
-        searched = λ bd is short quiet.
-            let due_so = g.asked bd.entries (told bd is short quiet) in
+        searched = λ bd is quiet.
+            let due_so = g.asked bd.entries (told bd is quiet) in
             (map (search_for (base a)) due_so.0, front_searched (base a) g.exchanges (due bd.entries) due_so.0 due_so.1);
       })
   rounded_stop a b stops.Memory early tells due going h g told =
       let some = some_went t W name base client stopped shows a g.exchanges b g.in_order in
       subst (λ (e : Early). Rounded t (base a) (client a) (client b) (Some e) due) (sym h)
-      (record { exchanges = some.exchanges; in_order = some.in_order; ends = tt; asked = some.asked; searched = λ bd is short quiet. tt })
+      (record { exchanges = some.exchanges; in_order = some.in_order; ends = tt; asked = some.asked; searched = λ bd is quiet. tt })

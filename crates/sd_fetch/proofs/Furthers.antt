@@ -32,7 +32,7 @@ further_from t base old new early asked due same r = record {
   exchanges = r.exchanges;
   in_order = r.in_order;
   ends = r.ends;
-  searched = λ b is short quiet. subst (λ (ss : List SearchValue). SearchedOf early (searches_in r.exchanges) ss) (same b.entries) (r.searched b is short quiet);
+  searched = λ b is quiet. subst (λ (ss : List SearchValue). SearchedOf early (searches_in r.exchanges) ss) (same b.entries) (r.searched b is quiet);
 }
 
 pub reads_further : {L : Type 0} (t : Telling L) (config : Config) (base : List (List Pair)) (group : DirEntry) (old new : Talk L) (early : Option Early)
@@ -49,14 +49,14 @@ holders_further t config user old new early r =
 
 -- no search
 pub none_further : {L : Type 0} (t : Telling L) (talk : Talk L) (due : List DirEntry → List SearchValue) → ((told : List DirEntry) → due told ≡ []) → Further t talk talk None due
-none_further t talk due none = record { exchanges = []; in_order = refl; ends = tt; searched = λ b is short quiet. sym (none b.entries) }
+none_further t talk due none = record { exchanges = []; in_order = refl; ends = tt; searched = λ b is quiet. sym (none b.entries) }
 
 pub no_base_further : {L : Type 0} (t : Telling L) (config : Config) (group : DirEntry) (talk : Talk L) → None ≡ spelled config.base → Further t talk talk None (λ told. reads_of config told group)
 no_base_further t config group talk is = none_further t talk (λ told. reads_of config told group) (λ told. ap (λ (o : Option (List (List Pair))). map read_search (reads_under o told config.level group)) (sym is))
 
 -- want of memory before any search
 pub starved_further : {L : Type 0} (t : Telling L) (talk : Talk L) (due : List DirEntry → List SearchValue) → Further t talk talk (Some earlies.Memory) due
-starved_further t talk due = record { exchanges = []; in_order = refl; ends = tt; searched = λ b is short quiet. tt }
+starved_further t talk due = record { exchanges = []; in_order = refl; ends = tt; searched = λ b is quiet. tt }
 
 pub members_by_base : (config : Config) (told : List DirEntry) (base : List (List Pair)) (group : DirEntry) (names : List (List ℕ)) → Some base ≡ spelled config.base → names ≡ members_of told base config.level group → names ≡ members_in config told group
 members_by_base config told base group names is e = e ∙ ap (λ (o : Option (List (List Pair))). members_under o told config.level group) is

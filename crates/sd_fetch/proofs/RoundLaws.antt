@@ -3,7 +3,6 @@ use Rattle.std.proofs.Common.{◌≡◌, ℕ, Bool, true, false, not, ◌==◌, 
 use Rattle.sd_ldap.specs.declared.entry.DirEntry.{DirEntry}
 use Rattle.sd_ldap.specs.Values.{SearchValue}
 use Rattle.sd_dial.specs.Entries.{Behind}
-use Rattle.sd_asking.specs.Rooms.{AreShort}
 use Rattle.sd_dial.specs.declared.searched.Searched.{Searched}
 use Rattle.sd_dial.specs.declared.searched.Searched.TheVariants as searches
 use Rattle.sd_client.specs.Talk.{Talk}
@@ -25,18 +24,17 @@ tells_on t old x new was_stopped is_stopped told w going stops k = record {
   behind = k.behind;
   is_told = w.behind ∙ k.is_told;
   entries = k.entries;
-  short = k.short;
-  quiet = λ e. (w.goes_on k.behind k.is_told k.short (k.quiet going) (has_reply x.searched (sym stops ∙ e))).settled;
+  quiet = λ e. (w.goes_on k.behind k.is_told (k.quiet going) (has_reply x.searched (sym stops ∙ e))).settled;
 }
 
 pub stopped_tells : {L : Type 0} (t : Telling L) (old : Talk L) (was_stopped : Bool) (told : List DirEntry) → Tells t old was_stopped told → Tells t old true told
-stopped_tells t old was_stopped told k = record { behind = k.behind; is_told = k.is_told; entries = k.entries; short = k.short; quiet = λ e. absurd cc }
+stopped_tells t old was_stopped told k = record { behind = k.behind; is_told = k.is_told; entries = k.entries; quiet = λ e. absurd cc }
 
 told_answer : {L : Type 0} (t : Telling L) (old : Talk L) (x : Exchange) (new : Talk L) (was_stopped : Bool) (told : List DirEntry)
     → Went t old x new → was_stopped ≡ false → IsPlain x.search → Tells t old was_stopped told → IsAnswer told x.search x.searched
 told_answer t old x new was_stopped told w going plain k =
     subst (λ (all : List DirEntry). IsAnswer all x.search x.searched) k.entries
-    (answered k.behind _ _ x.search x.searched plain (w.by_directory k.behind k.is_told k.short (k.quiet going)))
+    (answered k.behind _ _ x.search x.searched plain (w.by_directory k.behind k.is_told (k.quiet going)))
 
 plain_read : (dn : List ℕ) → IsPlain (read_search dn)
 plain_read dn = record { unlimited = refl; supported = refl }
@@ -57,5 +55,5 @@ holders_told t old new base dn s searched was_stopped told e w going k =
     (told_answer t old (record { search = s; searched = searched }) new was_stopped told w going (subst (λ (x : SearchValue). IsPlain x) (sym e) (plain_holders base dn)) k)
 
 -- a settled client over a link that tells the directory behind it tells its entries
-pub tells_first : {L : Type 0} (t : Telling L) (talk : Talk L) (is_stopped : Bool) (b : Behind) → t.behind talk.link ≡ Some b → AreShort b.entries → IsQuiet t talk → Tells t talk is_stopped b.entries
-tells_first t talk is_stopped b is short quiet = record { behind = b; is_told = is; entries = refl; short = short; quiet = λ e. quiet }
+pub tells_first : {L : Type 0} (t : Telling L) (talk : Talk L) (is_stopped : Bool) (b : Behind) → t.behind talk.link ≡ Some b → IsQuiet t talk → Tells t talk is_stopped b.entries
+tells_first t talk is_stopped b is quiet = record { behind = b; is_told = is; entries = refl; quiet = λ e. quiet }

@@ -184,7 +184,7 @@ told_rules t config old mid new given others rules services b a second r v s =
     let on : Stands t mid b = stands_on t old x mid b a.went s (gave given a.searched a.finds) in
     let first_given = given_sent t config keys.Rules old mid given b a s in
     let others_given = sent_given b.entries others (services_search config.base) second.searched second.finds
-    (answered b (length mid.received) mid.next (services_search config.base) second.searched (services_plain config) (second.went.by_directory b on.is on.short on.quiet)) in (
+    (answered b (length mid.received) mid.next (services_search config.base) second.searched (services_plain config) (second.went.by_directory b on.is on.quiet)) in (
       past_first t old x mid b (services_search config.base ∷ []) a.went s (gave given a.searched a.finds) ∙ past_first t mid y new b [] second.went on (gave others second.searched second.finds),
       ap (λ (rs : List Rule). book_of rs services) (r ∙ rules_sent config b.entries given first_given)
           ∙ (ap (book_of (rules_among config b.entries)) (v ∙ services_sent config b.entries others others_given) ∙ sym (rules_looked config b.entries)),

@@ -65,7 +65,7 @@ pub given_sent : {L : Type 0} (t : Telling L) (config : Config) (key : Key) (old
     → given ≡ map (sent (first_search config key)) (found b.entries (first_search config key))
 given_sent t config key old mid given b a s =
     sent_given b.entries given (first_search config key) a.searched a.finds
-    (answered b (length old.received) old.next (first_search config key) a.searched (first_plain config key) (a.went.by_directory b s.is s.short s.quiet))
+    (answered b (length old.received) old.next (first_search config key) a.searched (first_plain config key) (a.went.by_directory b s.is s.quiet))
 
 -- ---- plain searches
 
@@ -221,7 +221,7 @@ told_one t config key old mid new given result b one a f found s =
     subst (λ (o : Option Why). IsToldSought result o (looked_up config b.entries key) (t.refuses new.link) (t.ends new.link) (t.coming new.link))
     (sym (past_first t old x mid b (further_searches config b.entries key) a.went s g))
     (told_further t mid new b (early_of result) f.exchanges (further_searches config b.entries key) result (looked_up config b.entries key) refl f.in_order on (plain_further config b.entries key)
-    f.ends (subst (λ (ss : List SearchValue). SearchedOf (early_of result) (searches_in f.exchanges) ss) due (f.searched b on.is on.short on.quiet)) found)
+    f.ends (subst (λ (ss : List SearchValue). SearchedOf (early_of result) (searches_in f.exchanges) ss) due (f.searched b on.is on.quiet)) found)
 
 pub told_first : {L : Type 0} (t : Telling L) (config : Config) (key : Key) (old new : Talk L) (early : Early) (b : Behind) → Tried t old (first_search config key) (Err early) new → Stands t old b
     → IsToldSought (Err early) (first_failure b (length old.received) old.next (searches_of config b.entries key)) (looked_up config b.entries key) (t.refuses new.link) (t.ends new.link) (t.coming new.link)

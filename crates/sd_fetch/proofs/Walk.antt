@@ -12,7 +12,6 @@ use Rattle.sd_dial.specs.declared.searched.Searched.TheVariants as searches
 use Rattle.sd_client.specs.declared.step.Request.TheVariants as requests
 use Rattle.sd_client.specs.Deciding.{Decision, decided}
 use Rattle.sd_client.specs.Talk.{Talk, IsSearched, IsUnsearched}
-use Rattle.sd_asking.specs.Rooms.{AreShort}
 use Rattle.sd_asking.specs.Settled.{IsSettled}
 use Rattle.sd_asking.specs.Searching.{ToldReply, told_search, search_reply_size, IsToldSearch, IsToldFailure, HasReply}
 use Rattle.sd_asking.specs.Searching as told
@@ -25,7 +24,6 @@ use Rattle.sd_nested.specs.Searches.{IsAnswer}
 -- the directory that a link tells, with entries that fit messages, behind a client that is settled
 pub record Stands {L : Type 0} (t : Telling L) (talk : Talk L) (b : Behind) : Type 0 where
   pub is : t.behind talk.link ≡ Some b
-  pub short : AreShort b.entries
   pub quiet : IsQuiet t talk
 
 abbrev told_of : {L : Type 0} → Behind → Talk L → Exchange → ToldReply
@@ -44,16 +42,16 @@ no_failure (searches.Failed why) reply g h = absurd g
 no_failure searches.Memory reply g h = absurd g
 
 pub told_gave : {L : Type 0} (t : Telling L) (old : Talk L) (x : Exchange) (new : Talk L) (b : Behind) → Went t old x new → Stands t old b → Gave x.searched → failure_of (told_of b old x) ≡ None
-told_gave t old x new b w s g = no_failure x.searched (told_of b old x) g (w.by_directory b s.is s.short s.quiet)
+told_gave t old x new b w s g = no_failure x.searched (told_of b old x) g (w.by_directory b s.is s.quiet)
 
 pub stands_on : {L : Type 0} (t : Telling L) (old : Talk L) (x : Exchange) (new : Talk L) (b : Behind) → Went t old x new → Stands t old b → Gave x.searched → Stands t new b
-stands_on t old x new b w s g = record { is = w.behind ∙ s.is; short = s.short; quiet = (w.goes_on b s.is s.short s.quiet (replies x.searched g)).settled }
+stands_on t old x new b w s g = record { is = w.behind ∙ s.is; quiet = (w.goes_on b s.is s.quiet (replies x.searched g)).settled }
 
 -- a search that came to entries meets no limit
 pub past_first : {L : Type 0} (t : Telling L) (old : Talk L) (x : Exchange) (new : Talk L) (b : Behind) (rest : List SearchValue) → Went t old x new → Stands t old b → Gave x.searched
     → first_failure b (length old.received) old.next (x.search ∷ rest) ≡ first_failure b (length new.received) new.next rest
 past_first t old x new b rest w s g =
-    let on = w.goes_on b s.is s.short s.quiet (replies x.searched g) in
+    let on = w.goes_on b s.is s.quiet (replies x.searched g) in
     ap (λ (f : Option Why). or_later f (first_failure b (length old.received + search_reply_size b old.next x.search) (old.next + 1) rest)) (told_gave t old x new b w s g)
     ∙ (ap (λ (n : ℕ). first_failure b n (old.next + 1) rest) (sym on.grown) ∙ ap (λ (n : ℕ). first_failure b (length new.received) n rest) (sym on.used))
 
@@ -128,11 +126,11 @@ limit_by : {L : Type 0} (t : Telling L) (old : Talk L) (x : Exchange) (new : Tal
     → IsLimit why (first_failure b (length old.received) old.next (x.search ∷ rest)) (t.refuses new.link) (t.ends new.link) (t.coming new.link)
 limit_by t old x new b rest whys.Link w s e = elim w.used [
   | inl same ↦ inl (unsent_link x.searched _ _ e (w.no_reply s.quiet.well same))
-  | inr more ↦ inr (sent_link x.searched _ new.at _ _ e (w.reply more), λ none. is_first b (length old.received) old.next x.search rest whys.Link (w.ended b s.is s.short s.quiet more none e))
+  | inr more ↦ inr (sent_link x.searched _ new.at _ _ e (w.reply more), λ none. is_first b (length old.received) old.next x.search rest whys.Link (w.ended b s.is s.quiet more none e))
 ]
-limit_by t old x new b rest (whys.Bytes at) w s e = is_first b (length old.received) old.next x.search rest (whys.Bytes at) (told_failure x.searched (whys.Bytes at) (told_of b old x) e (w.by_directory b s.is s.short s.quiet))
-limit_by t old x new b rest (whys.Message tag) w s e = is_first b (length old.received) old.next x.search rest (whys.Message tag) (told_failure x.searched (whys.Message tag) (told_of b old x) e (w.by_directory b s.is s.short s.quiet))
-limit_by t old x new b rest (whys.Flood count) w s e = is_first b (length old.received) old.next x.search rest (whys.Flood count) (told_failure x.searched (whys.Flood count) (told_of b old x) e (w.by_directory b s.is s.short s.quiet))
+limit_by t old x new b rest (whys.Bytes at) w s e = is_first b (length old.received) old.next x.search rest (whys.Bytes at) (told_failure x.searched (whys.Bytes at) (told_of b old x) e (w.by_directory b s.is s.quiet))
+limit_by t old x new b rest (whys.Message tag) w s e = is_first b (length old.received) old.next x.search rest (whys.Message tag) (told_failure x.searched (whys.Message tag) (told_of b old x) e (w.by_directory b s.is s.quiet))
+limit_by t old x new b rest (whys.Flood count) w s e = is_first b (length old.received) old.next x.search rest (whys.Flood count) (told_failure x.searched (whys.Flood count) (told_of b old x) e (w.by_directory b s.is s.quiet))
 limit_by t old x new b rest (whys.Code code) w s e = elim w.used [
   | inl same ↦ absurd (unsent_code x.searched code _ e (w.no_reply s.quiet.well same))
   | inr more ↦ absurd (sent_code x.searched code _ new.at _ e (w.reply more))
@@ -178,4 +176,4 @@ walk_code {L} t old xs new b code g s plain last =
     let on = walked t old last.before p.between b [] p.front last.gave s in
     let simple : IsPlain last.search = plain_last (searches_in last.before) last.search
     (subst ArePlain (ap searches_in last.are ∙ map-append (λ (y : Exchange). y.search) last.before (x ∷ [])) plain) in
-    (answered b (length p.between.received) p.between.next last.search (searches.Code code) simple (p.last.by_directory b on.stands.is on.stands.short on.stands.quiet)).0
+    (answered b (length p.between.received) p.between.next last.search (searches.Code code) simple (p.last.by_directory b on.stands.is on.stands.quiet)).0

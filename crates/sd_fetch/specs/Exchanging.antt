@@ -14,7 +14,6 @@ use Rattle.sd_client.specs.declared.step.Request.TheVariants as requests
 use Rattle.sd_client.specs.Deciding.{decided}
 use Rattle.sd_client.specs.Replying.{IsUnsent, IsSent}
 use Rattle.sd_client.specs.Talk.{Talk, search_message, IsSearched, IsUnsearched, failure_by_search}
-use Rattle.sd_asking.specs.Rooms.{AreShort}
 use Rattle.sd_asking.specs.Settled.{IsSettled, GoesOn}
 use Rattle.sd_asking.specs.Searching.{told_search, search_reply_size, IsToldSearch, HasReply, IsSearchedBy}
 use Rattle.sd_asking.specs.Searching as told
@@ -60,9 +59,9 @@ pub record Went {L : Type 0} (t : Telling L) (old : Talk L) (x : Exchange) (new 
   pub later : t.faults old.link ≤ t.faults new.link
   pub answered : IsQuiet t old → new.next ≡ old.next + 1 → IsSearchedBy x.searched (decided requests.Search old.next old.at (old.received ++ answer_of t old x)) new.at (t.coming new.link)
   pub settles : IsQuiet t old → HasReply x.searched → new.at ≡ length old.received + length (answer_of t old x) → length old.received + length (answer_of t old x) ≤ 67108864 → GoesOn old new (t.coming new.link) (length (answer_of t old x))
-  pub by_directory : (b : Behind) → t.behind old.link ≡ Some b → AreShort b.entries → IsQuiet t old → IsToldSearch x.searched (told_search b (length old.received) old.next x.search)
-  pub goes_on : (b : Behind) → t.behind old.link ≡ Some b → AreShort b.entries → IsQuiet t old → HasReply x.searched → GoesOn old new (t.coming new.link) (search_reply_size b old.next x.search)
-  pub ended : (b : Behind) → t.behind old.link ≡ Some b → AreShort b.entries → IsQuiet t old → new.next ≡ old.next + 1 → t.coming new.link ≡ Some [] → x.searched ≡ searches.Failed whys.Link → told_search b (length old.received) old.next x.search ≡ told.failed whys.Link
+  pub by_directory : (b : Behind) → t.behind old.link ≡ Some b → IsQuiet t old → IsToldSearch x.searched (told_search b (length old.received) old.next x.search)
+  pub goes_on : (b : Behind) → t.behind old.link ≡ Some b → IsQuiet t old → HasReply x.searched → GoesOn old new (t.coming new.link) (search_reply_size b old.next x.search)
+  pub ended : (b : Behind) → t.behind old.link ≡ Some b → IsQuiet t old → new.next ≡ old.next + 1 → t.coming new.link ≡ Some [] → x.searched ≡ searches.Failed whys.Link → told_search b (length old.received) old.next x.search ≡ told.failed whys.Link
 
 -- the exchanges lead from one state of a client to another, in order
 abbrev pub Goes : {L : Type 0} → Telling L → Talk L → List Exchange → Talk L → Type 0

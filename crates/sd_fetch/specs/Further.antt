@@ -10,7 +10,6 @@ use Rattle.sd_ldap.specs.declared.entry.DirEntry.{DirEntry}
 use Rattle.sd_ldap.specs.Values.{SearchValue}
 use Rattle.sd_dial.specs.Entries.{Behind}
 use Rattle.sd_client.specs.Talk.{Talk}
-use Rattle.sd_asking.specs.Rooms.{AreShort}
 use Rattle.sd_fetch.specs.declared.finding.Early.{Early}
 use Rattle.sd_fetch.specs.Exchanging.{Telling, Exchange, Goes, IsQuiet}
 use Rattle.sd_fetch.specs.Rounding.{EndsIn, SearchedOf, searches_in}
@@ -32,7 +31,7 @@ pub record Further {L : Type 0} (t : Telling L) (old new : Talk L) (early : Opti
   pub exchanges : List Exchange
   pub in_order : Goes t old exchanges new
   pub ends : EndsIn early exchanges
-  pub searched : (b : Behind) → t.behind old.link ≡ Some b → AreShort b.entries → IsQuiet t old → SearchedOf early (searches_in exchanges) (due b.entries)
+  pub searched : (b : Behind) → t.behind old.link ≡ Some b → IsQuiet t old → SearchedOf early (searches_in exchanges) (due b.entries)
 
 -- all DNs are DNs
 abbrev pub have_dns : List DirEntry → Bool

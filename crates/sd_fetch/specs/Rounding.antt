@@ -5,7 +5,6 @@ use Rattle.sd_ldap.specs.Values.{SearchValue}
 use Rattle.sd_dial.specs.Entries.{Behind}
 use Rattle.sd_dial.specs.declared.searched.Searched.TheVariants as searches
 use Rattle.sd_client.specs.Talk.{Talk}
-use Rattle.sd_asking.specs.Rooms.{AreShort}
 use Rattle.sd_nested.specs.Searches.{Question, entry_at, holders_of, read_search, holder_search}
 use Rattle.sd_nested.specs.Searches as nested
 use Rattle.sd_base.specs.declared.Why.TheVariants as whys
@@ -33,7 +32,6 @@ pub record Tells {L : Type 0} (t : Telling L) (talk : Talk L) (is_stopped : Bool
   pub behind : Behind
   pub is_told : t.behind talk.link ≡ Some behind
   pub entries : behind.entries ≡ told
-  pub short : AreShort behind.entries
   pub quiet : is_stopped ≡ false → IsQuiet t talk
 
 -- Nothing was asked, for want of memory or since it had stopped.
@@ -80,7 +78,7 @@ pub record Rounded {L : Type 0} (t : Telling L) (base : List ℕ) (old new : Tal
   pub in_order : Goes t old exchanges new
   pub ends : EndsIn early exchanges
   pub asked : AreQuestions base exchanges
-  pub searched : (b : Behind) → t.behind old.link ≡ Some b → AreShort b.entries → IsQuiet t old → SearchedOf early (searches_in exchanges) (map (search_for base) (due b.entries))
+  pub searched : (b : Behind) → t.behind old.link ≡ Some b → IsQuiet t old → SearchedOf early (searches_in exchanges) (map (search_for base) (due b.entries))
 
 abbrev pub early_of : {A : Type 0} → Result A Early → Option Early
 early_of (Ok x) = None

@@ -3,7 +3,6 @@ ghost use Rattle.std.specs.Prelude.{◌≡◌, ℕ, List, true, map, filter, len
 ghost use Rattle.sd_ldap.specs.declared.entry.DirEntry.{DirEntry};
 ghost use Rattle.sd_rules.specs.Lookups.{is_fetched_of_kind};
 ghost use Rattle.sd_dial.specs.Entries.{Behind};
-ghost use Rattle.sd_asking.specs.Rooms.{AreShort};
 ghost use Rattle.sd_asking.specs.Settled.{IsSettled};
 ghost use Rattle.sd_fetch.specs.Exchanging.{Telling};
 ghost use Rattle.sd_rules.specs.declared.keys.Key.TheVariants as keys;
@@ -37,7 +36,7 @@ fn choose<L: DirectoryLink>(
     entries: &[DirEntry],
 ) -> Result<Fetched, Early>
     ensures further { Further (record { sent = L.sent; asked = L.asked; received = L.received; coming = L.coming; answer = L.answer; behind = L.behind; faults = L.faults; refuses = L.refuses; ends = L.ends }) client.old client.new (early_of result) (λ told. where_one (λ e. further_of config.now key.now e told) (filter (λ e. fits config.now key.now e) entries.now)) }
-    ensures found { (b : Behind) → L.behind client.old.link ≡ Some b → AreShort b.entries → IsSettled client.old (L.coming client.old.link) → have_dns entries.now ≡ true → IfOk result (λ fetched. fetched ≡ one_of (λ e. found_as config.now key.now b.entries e) (filter (λ e. fits config.now key.now e) entries.now)) }
+    ensures found { (b : Behind) → L.behind client.old.link ≡ Some b → IsSettled client.old (L.coming client.old.link) → have_dns entries.now ≡ true → IfOk result (λ fetched. fetched ≡ one_of (λ e. found_as config.now key.now b.entries e) (filter (λ e. fits config.now key.now e) entries.now)) }
     ensures one { IfOk result (λ fetched. IsOneOf config.now key.now (filter (λ e. fits config.now key.now e) entries.now) fetched) }
 {
     let those = fitting(alloc, entries, key, config)?;
@@ -82,7 +81,7 @@ fn fetch_one<L: DirectoryLink>(
 ) -> Result<Fetched, Early>
     requires { is_of_one key.now ≡ true }
     ensures sought { Sought (record { sent = L.sent; asked = L.asked; received = L.received; coming = L.coming; answer = L.answer; behind = L.behind; faults = L.faults; refuses = L.refuses; ends = L.ends }) config.now key.now client.old result client.new }
-    ensures told { (b : Behind) → L.behind client.old.link ≡ Some b → AreShort b.entries → IsSettled client.old (L.coming client.old.link) → IsToldSought result (first_failure b (length client.old.received) client.old.next (searches_of config.now b.entries key.now)) (looked_up config.now b.entries key.now) (L.refuses client.new.link) (L.ends client.new.link) (L.coming client.new.link) }
+    ensures told { (b : Behind) → L.behind client.old.link ≡ Some b → IsSettled client.old (L.coming client.old.link) → IsToldSought result (first_failure b (length client.old.received) client.old.next (searches_of config.now b.entries key.now)) (looked_up config.now b.entries key.now) (L.refuses client.new.link) (L.ends client.new.link) (L.coming client.new.link) }
 {
     let entries = seek(alloc, client, key, config)?;
     choose(alloc, client, key, config, entries.items())
@@ -95,7 +94,7 @@ fn fetch_rules<L: DirectoryLink>(
     config: &Config,
 ) -> Result<Fetched, Early>
     ensures sought { Sought (record { sent = L.sent; asked = L.asked; received = L.received; coming = L.coming; answer = L.answer; behind = L.behind; faults = L.faults; refuses = L.refuses; ends = L.ends }) config.now keys.Rules client.old result client.new }
-    ensures told { (b : Behind) → L.behind client.old.link ≡ Some b → AreShort b.entries → IsSettled client.old (L.coming client.old.link) → IsToldSought result (first_failure b (length client.old.received) client.old.next (searches_of config.now b.entries keys.Rules)) (looked_up config.now b.entries keys.Rules) (L.refuses client.new.link) (L.ends client.new.link) (L.coming client.new.link) }
+    ensures told { (b : Behind) → L.behind client.old.link ≡ Some b → IsSettled client.old (L.coming client.old.link) → IsToldSought result (first_failure b (length client.old.received) client.old.next (searches_of config.now b.entries keys.Rules)) (looked_up config.now b.entries keys.Rules) (L.refuses client.new.link) (L.ends client.new.link) (L.coming client.new.link) }
 {
     let entries = seek(alloc, client, &Key::Rules, config)?;
     let rules = rules_of(alloc, entries.items(), config)?;
@@ -111,7 +110,7 @@ fn fetch_key<L: DirectoryLink>(
     config: &Config,
 ) -> Result<Fetched, Early>
     ensures sought { Sought (record { sent = L.sent; asked = L.asked; received = L.received; coming = L.coming; answer = L.answer; behind = L.behind; faults = L.faults; refuses = L.refuses; ends = L.ends }) config.now key.now client.old result client.new }
-    ensures told { (b : Behind) → L.behind client.old.link ≡ Some b → AreShort b.entries → IsSettled client.old (L.coming client.old.link) → IsToldSought result (first_failure b (length client.old.received) client.old.next (searches_of config.now b.entries key.now)) (looked_up config.now b.entries key.now) (L.refuses client.new.link) (L.ends client.new.link) (L.coming client.new.link) }
+    ensures told { (b : Behind) → L.behind client.old.link ≡ Some b → IsSettled client.old (L.coming client.old.link) → IsToldSought result (first_failure b (length client.old.received) client.old.next (searches_of config.now b.entries key.now)) (looked_up config.now b.entries key.now) (L.refuses client.new.link) (L.ends client.new.link) (L.coming client.new.link) }
 {
     match key {
         Key::Rules => fetch_rules(alloc, client, config),
@@ -133,7 +132,7 @@ pub fn fetch<L: DirectoryLink>(
     // Over any link: the searches made, in order, and how they came to the result.
     ensures looked { Looked (record { sent = L.sent; asked = L.asked; received = L.received; coming = L.coming; answer = L.answer; behind = L.behind; faults = L.faults; refuses = L.refuses; ends = L.ends }) config.now key.now client.old result client.new }
     // Over a link that tells the directory behind it: the lookup in its entries, unless a search meets a limit.
-    ensures told { (b : Behind) → L.behind client.old.link ≡ Some b → AreShort b.entries → IsSettled client.old (L.coming client.old.link) → IsToldLookup result (first_failure b (length client.old.received) client.old.next (searches_of config.now b.entries key.now)) (looked_up config.now b.entries key.now) (L.refuses client.new.link) (L.ends client.new.link) (L.coming client.new.link) }
+    ensures told { (b : Behind) → L.behind client.old.link ≡ Some b → IsSettled client.old (L.coming client.old.link) → IsToldLookup result (first_failure b (length client.old.received) client.old.next (searches_of config.now b.entries key.now)) (looked_up config.now b.entries key.now) (L.refuses client.new.link) (L.ends client.new.link) (L.coming client.new.link) }
 {
     match fetch_key(alloc, client, key, config) {
         Ok(fetched) => fetched,

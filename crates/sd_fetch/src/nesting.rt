@@ -5,7 +5,6 @@ ghost use Rattle.sd_dn.specs.Texts.{spelled};
 ghost use Rattle.sd_ldap.specs.declared.entry.DirEntry.{DirEntry};
 ghost use Rattle.sd_rules.specs.declared.records.GroupRef.{GroupRef};
 ghost use Rattle.sd_dial.specs.Entries.{Behind};
-ghost use Rattle.sd_asking.specs.Rooms.{AreShort};
 ghost use Rattle.sd_asking.specs.Settled.{IsSettled};
 ghost use Rattle.sd_fetch.specs.Exchanging.{Telling};
 ghost use Rattle.sd_fetch.specs.Rounding.{early_of};
@@ -35,7 +34,7 @@ fn members_of<L: DirectoryLink>(
     group: &DirEntry,
 ) -> Result<Texts, Early>
     ensures further { Further (record { sent = L.sent; asked = L.asked; received = L.received; coming = L.coming; answer = L.answer; behind = L.behind; faults = L.faults; refuses = L.refuses; ends = L.ends }) client.old client.new (early_of result) (λ told. reads_of config.now told group.now) }
-    ensures members { (b : Behind) → L.behind client.old.link ≡ Some b → AreShort b.entries → IsSettled client.old (L.coming client.old.link) → IfOk result (λ names. names ≡ members_in config.now b.entries group.now) }
+    ensures members { (b : Behind) → L.behind client.old.link ≡ Some b → IsSettled client.old (L.coming client.old.link) → IfOk result (λ names. names ≡ members_in config.now b.entries group.now) }
 {
     match spelled(alloc, config.base.bytes())? {
         Some(base) => read_members(alloc, client, config, &base, group),
@@ -52,7 +51,7 @@ fn groups_of<L: DirectoryLink>(
     user: &DirEntry,
 ) -> Result<GroupRefs, Early>
     ensures further { Further (record { sent = L.sent; asked = L.asked; received = L.received; coming = L.coming; answer = L.answer; behind = L.behind; faults = L.faults; refuses = L.refuses; ends = L.ends }) client.old client.new (early_of result) (λ told. holders_of config.now told user.now) }
-    ensures groups { (b : Behind) → L.behind client.old.link ≡ Some b → AreShort b.entries → IsSettled client.old (L.coming client.old.link) → is_dn user.now.dn ≡ true → IfOk result (λ groups. groups ≡ groups_in config.now b.entries user.now) }
+    ensures groups { (b : Behind) → L.behind client.old.link ≡ Some b → IsSettled client.old (L.coming client.old.link) → is_dn user.now.dn ≡ true → IfOk result (λ groups. groups ≡ groups_in config.now b.entries user.now) }
 {
     read_groups(alloc, client, config, user)
 }
@@ -66,7 +65,7 @@ fn found_group<L: DirectoryLink>(
     entry: &DirEntry,
 ) -> Result<Fetched, Early>
     ensures further { Further (record { sent = L.sent; asked = L.asked; received = L.received; coming = L.coming; answer = L.answer; behind = L.behind; faults = L.faults; refuses = L.refuses; ends = L.ends }) client.old client.new (early_of result) (λ told. reads_of config.now told entry.now) }
-    ensures found { (b : Behind) → L.behind client.old.link ≡ Some b → AreShort b.entries → IsSettled client.old (L.coming client.old.link) → IfOk result (λ fetched. fetched ≡ found_from (with_members (members_in config.now b.entries entry.now)) (group_of config.now key.now entry.now)) }
+    ensures found { (b : Behind) → L.behind client.old.link ≡ Some b → IsSettled client.old (L.coming client.old.link) → IfOk result (λ fetched. fetched ≡ found_from (with_members (members_in config.now b.entries entry.now)) (group_of config.now key.now entry.now)) }
     ensures some { IfOk result (λ fetched. (members : List (List ℕ)) × (fetched ≡ found_from (with_members members) (group_of config.now key.now entry.now))) }
 {
     let members = members_of(alloc, client, config, entry)?;
@@ -82,7 +81,7 @@ fn found_groups<L: DirectoryLink>(
     entry: &DirEntry,
 ) -> Result<Fetched, Early>
     ensures further { Further (record { sent = L.sent; asked = L.asked; received = L.received; coming = L.coming; answer = L.answer; behind = L.behind; faults = L.faults; refuses = L.refuses; ends = L.ends }) client.old client.new (early_of result) (λ told. holders_of config.now told entry.now) }
-    ensures found { (b : Behind) → L.behind client.old.link ≡ Some b → AreShort b.entries → IsSettled client.old (L.coming client.old.link) → is_dn entry.now.dn ≡ true → IfOk result (λ fetched. fetched ≡ found_from (with_groups (groups_in config.now b.entries entry.now)) (user_of config.now key.now entry.now)) }
+    ensures found { (b : Behind) → L.behind client.old.link ≡ Some b → IsSettled client.old (L.coming client.old.link) → is_dn entry.now.dn ≡ true → IfOk result (λ fetched. fetched ≡ found_from (with_groups (groups_in config.now b.entries entry.now)) (user_of config.now key.now entry.now)) }
     ensures some { IfOk result (λ fetched. (groups : List GroupRef) × (fetched ≡ found_from (with_groups groups) (user_of config.now key.now entry.now))) }
 {
     let groups = groups_of(alloc, client, config, entry)?;
@@ -98,7 +97,7 @@ pub fn found<L: DirectoryLink>(
     entry: &DirEntry,
 ) -> Result<Fetched, Early>
     ensures further { Further (record { sent = L.sent; asked = L.asked; received = L.received; coming = L.coming; answer = L.answer; behind = L.behind; faults = L.faults; refuses = L.refuses; ends = L.ends }) client.old client.new (early_of result) (λ told. further_of config.now key.now entry.now told) }
-    ensures found { (b : Behind) → L.behind client.old.link ≡ Some b → AreShort b.entries → IsSettled client.old (L.coming client.old.link) → is_dn entry.now.dn ≡ true → IfOk result (λ fetched. fetched ≡ found_as config.now key.now b.entries entry.now) }
+    ensures found { (b : Behind) → L.behind client.old.link ≡ Some b → IsSettled client.old (L.coming client.old.link) → is_dn entry.now.dn ≡ true → IfOk result (λ fetched. fetched ≡ found_as config.now key.now b.entries entry.now) }
     ensures one { IfOk result (λ fetched. IsFoundAs config.now key.now entry.now fetched) }
 {
     match key {

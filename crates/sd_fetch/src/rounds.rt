@@ -2,7 +2,6 @@
 ghost use Rattle.std.specs.Prelude.{◌≡◌, ℕ, true, false, map, IfOk, Some};
 ghost use Rattle.sd_dn.specs.Reading.{is_dn};
 ghost use Rattle.sd_dial.specs.Entries.{Behind};
-ghost use Rattle.sd_asking.specs.Rooms.{AreShort};
 ghost use Rattle.sd_asking.specs.Settled.{IsSettled};
 ghost use Rattle.sd_nested.specs.Searches.{entry_at, holders_of};
 ghost use Rattle.sd_nested.specs.Rounds.{member_reads, holder_asks};
@@ -103,7 +102,7 @@ fn members_by<L: DirectoryLink>(
     requires { rounds.old.is_stopped ≡ false }
     ensures name { rounds.new.client.ghost_name ≡ rounds.old.client.ghost_name }
     ensures rounded { Rounded (record { sent = L.sent; asked = L.asked; received = L.received; coming = L.coming; answer = L.answer; behind = L.behind; faults = L.faults; refuses = L.refuses; ends = L.ends }) rounds.old.base.now rounds.old.client.now rounds.new.client.now (early_of result) (λ told. map entry_at (member_reads told base.now level group.now)) }
-    ensures members { (b : Behind) → L.behind rounds.old.client.now.link ≡ Some b → AreShort b.entries → IsSettled rounds.old.client.now (L.coming rounds.old.client.now.link) → IfOk result (λ names. names ≡ members_of b.entries base.now level group.now) }
+    ensures members { (b : Behind) → L.behind rounds.old.client.now.link ≡ Some b → IsSettled rounds.old.client.now (L.coming rounds.old.client.now.link) → IfOk result (λ names. names ≡ members_of b.entries base.now level group.now) }
 {
     match members(alloc, rounds, group, base, level) {
         Ok(names) => Ok(names),
@@ -120,7 +119,7 @@ pub fn read_members<L: DirectoryLink>(
     group: &DirEntry,
 ) -> Result<Texts, Early>
     ensures rounded { Rounded (record { sent = L.sent; asked = L.asked; received = L.received; coming = L.coming; answer = L.answer; behind = L.behind; faults = L.faults; refuses = L.refuses; ends = L.ends }) config.now.base client.old client.new (early_of result) (λ told. map entry_at (member_reads told base.now config.now.level group.now)) }
-    ensures members { (b : Behind) → L.behind client.old.link ≡ Some b → AreShort b.entries → IsSettled client.old (L.coming client.old.link) → IfOk result (λ names. names ≡ members_of b.entries base.now config.now.level group.now) }
+    ensures members { (b : Behind) → L.behind client.old.link ≡ Some b → IsSettled client.old (L.coming client.old.link) → IfOk result (λ names. names ≡ members_of b.entries base.now config.now.level group.now) }
 {
     let mut rounds = Rounds {
         alloc,
@@ -141,7 +140,7 @@ fn groups_by<L: DirectoryLink>(
     requires { rounds.old.is_stopped ≡ false }
     ensures name { rounds.new.client.ghost_name ≡ rounds.old.client.ghost_name }
     ensures rounded { Rounded (record { sent = L.sent; asked = L.asked; received = L.received; coming = L.coming; answer = L.answer; behind = L.behind; faults = L.faults; refuses = L.refuses; ends = L.ends }) rounds.old.base.now rounds.old.client.now rounds.new.client.now (early_of result) (λ told. map holders_of (holder_asks told rounds.old.base.now level user.now.dn)) }
-    ensures groups { (b : Behind) → L.behind rounds.old.client.now.link ≡ Some b → AreShort b.entries → IsSettled rounds.old.client.now (L.coming rounds.old.client.now.link) → is_dn user.now.dn ≡ true → IfOk result (λ groups. groups ≡ groups_of_user (at_or_under rounds.old.base.now b.entries) level user.now.dn) }
+    ensures groups { (b : Behind) → L.behind rounds.old.client.now.link ≡ Some b → IsSettled rounds.old.client.now (L.coming rounds.old.client.now.link) → is_dn user.now.dn ≡ true → IfOk result (λ groups. groups ≡ groups_of_user (at_or_under rounds.old.base.now b.entries) level user.now.dn) }
 {
     match groups_of(alloc, rounds, user, level) {
         Ok(groups) => Ok(groups),
@@ -157,7 +156,7 @@ pub fn read_groups<L: DirectoryLink>(
     user: &DirEntry,
 ) -> Result<GroupRefs, Early>
     ensures rounded { Rounded (record { sent = L.sent; asked = L.asked; received = L.received; coming = L.coming; answer = L.answer; behind = L.behind; faults = L.faults; refuses = L.refuses; ends = L.ends }) config.now.base client.old client.new (early_of result) (λ told. map holders_of (holder_asks told config.now.base config.now.level user.now.dn)) }
-    ensures groups { (b : Behind) → L.behind client.old.link ≡ Some b → AreShort b.entries → IsSettled client.old (L.coming client.old.link) → is_dn user.now.dn ≡ true → IfOk result (λ groups. groups ≡ groups_of_user (at_or_under config.now.base b.entries) config.now.level user.now.dn) }
+    ensures groups { (b : Behind) → L.behind client.old.link ≡ Some b → IsSettled client.old (L.coming client.old.link) → is_dn user.now.dn ≡ true → IfOk result (λ groups. groups ≡ groups_of_user (at_or_under config.now.base b.entries) config.now.level user.now.dn) }
 {
     let mut rounds = Rounds {
         alloc,

@@ -19,7 +19,6 @@ use Rattle.sd_client.specs.Deciding.{Decision}
 use Rattle.sd_client.specs.Talk.{Talk, IsSearched, IsUnsearched, IsUnbound, bind_message, unbind_message, failure_by_search}
 use Rattle.sd_asking.specs.Settled.{IsSettled}
 use Rattle.sd_asking.specs.Binding.{told_bind, IsToldBind}
-use Rattle.sd_asking.specs.Rooms.{AreShort}
 use Rattle.sd_fetch.specs.Exchanging.{Telling, Exchange, Went, Goes, Gave, AllGave, IsLast, EndsBy, FailedBy, request_of, is_stop}
 use Rattle.sd_fetch.specs.Looked.{Looked}
 use Rattle.sd_fetch.specs.Told.{IsToldLookup, searches_of, first_failure}
@@ -221,12 +220,12 @@ told_fetch fetches.Memory failure lookup refuses ends coming h = tt
 
 -- what a lookup over a client that was just made comes to
 pub told_by_fresh : {L : Type 0} (behind : L → Option Behind) (comes : L → Option (List ℕ)) (config : Config) (key : Key) (old : Talk L) (before : L) (f : Fetched) (refuses ends : Type 0) (coming : Option (List ℕ)) (b : Behind) → old ≡ fresh before
-    → behind before ≡ Some b → AreShort b.entries → IsSettled old (comes old.link)
-    → ((c : Behind) → behind old.link ≡ Some c → AreShort c.entries → IsSettled old (comes old.link) →
+    → behind before ≡ Some b → IsSettled old (comes old.link)
+    → ((c : Behind) → behind old.link ≡ Some c → IsSettled old (comes old.link) →
     IsToldLookup f (first_failure c (length old.received) old.next (searches_of config c.entries key)) (looked_up config c.entries key) refuses ends coming)
     → IsToldFetch f (first_failure b 0 1 (searches_of config b.entries key)) (looked_up config b.entries key)
-told_by_fresh {L} behind comes config key old before f refuses ends coming b made is short settled told =
-    let by_old = told b (ap (λ (o : Talk L). behind o.link) made ∙ is) short settled in
+told_by_fresh {L} behind comes config key old before f refuses ends coming b made is settled told =
+    let by_old = told b (ap (λ (o : Talk L). behind o.link) made ∙ is) settled in
     told_fetch f _ _ refuses ends coming
     (subst (λ (o : Talk L). IsToldLookup f (first_failure b (length o.received) o.next (searches_of config b.entries key)) (looked_up config b.entries key) refuses ends coming) made by_old)
 

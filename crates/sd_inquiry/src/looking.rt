@@ -3,7 +3,6 @@ ghost use Rattle.std.specs.Prelude.{◌≡◌, ℕ, ◌≤◌, [], true, IfSome,
 ghost use Rattle.sd_base.specs.Causes.{Rose};
 ghost use Rattle.sd_rules.specs.Lookups.{is_fetched_of_kind};
 ghost use Rattle.sd_dial.specs.Entries.{Behind};
-ghost use Rattle.sd_asking.specs.Rooms.{AreShort};
 ghost use Rattle.sd_fetch.specs.Lookup.{looked_up};
 ghost use Rattle.sd_fetch.specs.Told.{searches_of, first_failure};
 ghost use Rattle.sd_inquiry.specs.Counting.{HasNotFallen};
@@ -26,7 +25,7 @@ fn look_over<L: DirectoryLink>(alloc: Global, line: L, config: &Config, key: &Ke
     ensures asks { LooksOver config.now key.now result.0 (L.asked line) (L.asked result.1) }
     ensures fallen { result.0 ≡ Fetched.Failed Why.Link → Rose (L.faults line) (L.faults result.1) }
     ensures later { L.faults line ≤ L.faults result.1 }
-    ensures told { (b : Behind) → L.behind line ≡ Some b → AreShort b.entries → IsToldFetch result.0 (first_failure b 0 1 (searches_of config.now b.entries key.now)) (looked_up config.now b.entries key.now) }
+    ensures told { (b : Behind) → L.behind line ≡ Some b → IsToldFetch result.0 (first_failure b 0 1 (searches_of config.now b.entries key.now)) (looked_up config.now b.entries key.now) }
 {
     let mut client = Client::new(alloc, line);
     let fetched = fetch(alloc, &mut client, key, config);
@@ -50,7 +49,7 @@ pub fn fetch_at<D: Dialer, G: Gate>(
     ensures fallen { result ≡ Fetched.Failed Why.Link → Rose (D.faults dialer.old) (D.faults dialer.new) }
     ensures later { HasNotFallen (D.faults dialer.old) (D.faults dialer.new) }
     // Where the dialer tells the directory behind the server: the lookup in its entries, unless a search meets a limit or the link falls.
-    ensures told { (b : Behind) → D.behind dialer.old server ≡ Some b → AreShort b.entries → IsToldFetch result (first_failure b 0 1 (searches_of config.now b.entries key.now)) (looked_up config.now b.entries key.now) }
+    ensures told { (b : Behind) → D.behind dialer.old server ≡ Some b → IsToldFetch result (first_failure b 0 1 (searches_of config.now b.entries key.now)) (looked_up config.now b.entries key.now) }
     ensures behind { (i : ℕ) → D.behind dialer.new i ≡ D.behind dialer.old i }
 {
     gate.before_directory(server);

@@ -1,7 +1,6 @@
 //! A netgroup asked for at a directory.
 ghost use Rattle.std.specs.Prelude.{◌≡◌, length, Some};
 ghost use Rattle.sd_dial.specs.Entries.{Behind};
-ghost use Rattle.sd_asking.specs.Rooms.{AreShort};
 ghost use Rattle.sd_asking.specs.Settled.{IsSettled};
 ghost use Rattle.sd_fetch.specs.Exchanging.{Telling};
 ghost use Rattle.sd_netgroup.specs.Asking.{Asked};
@@ -66,7 +65,7 @@ pub fn netgroup<L: DirectoryLink>(
     // Over any link: the searches made, in order, and how they came to the result.
     ensures asked { Asked (record { sent = L.sent; asked = L.asked; received = L.received; coming = L.coming; answer = L.answer; behind = L.behind; faults = L.faults; refuses = L.refuses; ends = L.ends }) base.now name.now client.old result client.new }
     // Over a link that tells the directory behind it: the triples in its entries, unless a search meets a limit.
-    ensures told { (b : Behind) → L.behind client.old.link ≡ Some b → AreShort b.entries → IsSettled client.old (L.coming client.old.link) → IsToldNetting b (length client.old.received) client.old.next base.now name.now result (L.refuses client.new.link) (L.ends client.new.link) (L.coming client.new.link) }
+    ensures told { (b : Behind) → L.behind client.old.link ≡ Some b → IsSettled client.old (L.coming client.old.link) → IsToldNetting b (length client.old.received) client.old.next base.now name.now result (L.refuses client.new.link) (L.ends client.new.link) (L.coming client.new.link) }
 {
     match gather(alloc, client, base, name) {
         Ok(finds) => found_by(alloc, finds),

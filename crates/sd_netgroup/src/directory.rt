@@ -2,7 +2,7 @@
 ghost use Rattle.std.specs.Prelude.{◌≡◌, ℕ, List, [], ◌⊎◌, true, IfOk, Some, None};
 ghost use Rattle.sd_base.specs.declared.Why.TheVariants as whys;
 ghost use Rattle.sd_ldap.specs.declared.entry.DirEntry.{DirEntry as DirEntryValue};
-ghost use Rattle.sd_asking.specs.Rooms.{AreShort};
+ghost use Rattle.sd_dial.specs.Rooms.{are_short};
 ghost use Rattle.sd_stub.specs.Keeping.{kept};
 ghost use Rattle.sd_stub.specs.declared.Mode.TheVariants as modes;
 ghost use Rattle.sd_stub_link.specs.Distinct.{have_own_dns};
@@ -37,7 +37,7 @@ fn ask(
     name: &Text,
 ) -> Netted
     requires own { have_own_dns directory.now ≡ true }
-    requires short { AreShort directory.now }
+    requires short { are_short directory.now ≡ true }
     requires fresh { client.old ≡ record { link = made directory.now modes.Up [] 0; received = []; at = 0; next = 1; failed = None } }
     ensures { ((client.new.failed ≡ Some whys.Link) × (client.new.link.starved ≡ true)) ⊎ Answers directory.now base.now name.now result }
 {
@@ -65,7 +65,7 @@ fn look_over(
     name: &Text,
 ) -> Result<Answer, Memory>
     requires own { have_own_dns directory.now ≡ true }
-    requires short { AreShort directory.now }
+    requires short { are_short directory.now ≡ true }
     ensures { IfOk result (λ answer. IsAnswer directory.now base.now name.now answer) }
 {
     let mut client = Client::new(alloc, PlainLink::new(alloc, directory, Mode::Up));

@@ -15,6 +15,7 @@ use Rattle.sd_ldap.specs.Spelling.{message_bytes}
 use Rattle.sd_ldap.specs.Sound.{IsSound}
 use Rattle.sd_match.specs.Answering.{told, reply, bind_code}
 use Rattle.sd_dial.specs.Entries.{shortest, four_octets, Behind}
+use Rattle.sd_dial.specs.Rooms.{are_short}
 use Rattle.sd_client.specs.declared.step.Request.{Request}
 use Rattle.sd_client.specs.declared.step.Request.TheVariants as requests
 use Rattle.sd_client.specs.Deciding.{Decision, undecided, ended, decided}
@@ -194,15 +195,15 @@ module _ (entries : List DirEntry) (mode : Mode) (dn password : List ℕ) (resul
         | inr quiet ↦ inr (is.ends behind known settled quiet.0 (ap (λ (rest : List ℕ). Some rest) quiet.1) e)
       ])
 
-pub bound_by_mode : CutDecides → IndefiniteDecides → CodeDecides → (entries : List DirEntry) (mode : Mode) (dn password : List ℕ) (result : Bound) (new : Talk Standing) → is_down mode ≡ false → HasCode mode → have_own_dns entries ≡ true
+pub bound_by_mode : CutDecides → IndefiniteDecides → CodeDecides → (entries : List DirEntry) (mode : Mode) (dn password : List ℕ) (result : Bound) (new : Talk Standing) → is_down mode ≡ false → HasCode mode → have_own_dns entries ≡ true → are_short entries ≡ true
     → IsBinding dn password result (fresh entries mode) new → Comes result new (bound_in mode entries dn password)
 unfolding bound_in
-bound_by_mode cut indefinite coded entries modes.Up dn password result new takes has own is = by_behind entries modes.Up dn password result new is (behind_in shortest entries) (rw own refl)
-bound_by_mode cut indefinite coded entries modes.Long dn password result new takes has own is = by_behind entries modes.Long dn password result new is (behind_in four_octets entries) (rw own refl)
-bound_by_mode cut indefinite coded entries modes.Down dn password result new takes has own is = absurd cc
-bound_by_mode cut indefinite coded entries modes.Cut dn password result new takes has own is =
+bound_by_mode cut indefinite coded entries modes.Up dn password result new takes has own short is = by_behind entries modes.Up dn password result new is (behind_in shortest entries) (rw (own, short) refl)
+bound_by_mode cut indefinite coded entries modes.Long dn password result new takes has own short is = by_behind entries modes.Long dn password result new is (behind_in four_octets entries) (rw (own, short) refl)
+bound_by_mode cut indefinite coded entries modes.Down dn password result new takes has own short is = absurd cc
+bound_by_mode cut indefinite coded entries modes.Cut dn password result new takes has own short is =
     subst (Comes result new) (in_cut cut entries dn password) (by_answer entries modes.Cut dn password result new is refl)
-bound_by_mode cut indefinite coded entries modes.Indef dn password result new takes has own is =
+bound_by_mode cut indefinite coded entries modes.Indef dn password result new takes has own short is =
     subst (Comes result new) (in_indefinite indefinite entries dn password) (by_answer entries modes.Indef dn password result new is refl)
-bound_by_mode cut indefinite coded entries (modes.Code number) dn password result new takes has own is =
+bound_by_mode cut indefinite coded entries (modes.Code number) dn password result new takes has own short is =
     subst (Comes result new) (in_code coded number has entries dn password) (by_answer entries (modes.Code number) dn password result new is refl)

@@ -16,12 +16,12 @@ use Rattle.sd_conf.specs.declared.config.Config.{Config}
 use Rattle.sd_ldap.specs.declared.entry.DirEntry.{DirEntry}
 use Rattle.sd_ldap.specs.Values.{SearchValue}
 use Rattle.sd_dial.specs.Entries.{Behind, shortest, four_octets}
+use Rattle.sd_dial.specs.Rooms.{are_short}
 use Rattle.sd_dial.specs.declared.searched.Searched.{Searched}
 use Rattle.sd_dial.specs.declared.searched.Searched.TheVariants as searches
 use Rattle.sd_client.specs.Talk.{Talk, search_message, failure_by_search}
 use Rattle.sd_asking.specs.Laws.{CutDecides, IndefiniteDecides, CodeDecides}
 use Rattle.sd_asking.specs.Sizes.{content_size, is_too_long}
-use Rattle.sd_asking.specs.Rooms.{AreShort}
 use Rattle.sd_asking.specs.Settled.{IsSettled}
 use Rattle.sd_stub.specs.declared.Mode.{Mode}
 use Rattle.sd_stub.specs.declared.Mode.TheVariants as modes
@@ -50,7 +50,7 @@ Comes result new answer = (is_out_of_memory result ≡ true) ⊎ (((new.failed �
 -- what a call of fetch says of a client
 pub record IsLookup (config : Config) (key : Key) (result : Fetched) (old new : Talk Standing) : Type 0 where
   pub looked : Looked telling config key old result new
-  pub told : (b : Behind) → behind_of old.link ≡ Some b → AreShort b.entries → IsSettled old (coming_of old.link) → IsToldLookup result (first_failure b (length old.received) old.next (searches_of config b.entries key)) (looked_up config b.entries key) (new.link.starved ≡ true) (rest_of new.link ≡ []) (coming_of new.link)
+  pub told : (b : Behind) → behind_of old.link ≡ Some b → IsSettled old (coming_of old.link) → IsToldLookup result (first_failure b (length old.received) old.next (searches_of config b.entries key)) (looked_up config b.entries key) (new.link.starved ≡ true) (rest_of new.link ≡ []) (coming_of new.link)
 
 -- ---- a failure of the last search is the client's
 
@@ -97,9 +97,9 @@ ends_failed : (result : Fetched) (exchanges : List Exchange) → EndsBy result e
 ends_failed result exchanges ends e = subst (λ (r : Fetched). EndsBy r exchanges) e ends
 
 by_behind : (config : Config) (key : Key) (entries : List DirEntry) (mode : Mode) (result : Fetched) (new : Talk Standing) (b : Behind) → IsLookup config key result (fresh entries mode) new
-    → behind_of (made entries mode [] 0) ≡ Some b → AreShort b.entries → Comes result new (fetched_behind b config key)
-by_behind config key entries mode result new b is known short =
-    by_told result (first_failure b 0 1 (searches_of config b.entries key)) (looked_up config b.entries key) new (is.told b known short (fresh_settled entries mode))
+    → behind_of (made entries mode [] 0) ≡ Some b → Comes result new (fetched_behind b config key)
+by_behind config key entries mode result new b is known =
+    by_told result (first_failure b 0 1 (searches_of config b.entries key)) (looked_up config b.entries key) new (is.told b known (fresh_settled entries mode))
     (λ e. link_failed is.looked.exchanges (fresh entries mode) new is.looked.in_order (ends_failed result is.looked.exchanges is.looked.ends e) refl)
 
 -- ---- a first search that ends the lookup
@@ -338,11 +338,11 @@ in_cut_mode law entries config key result new is =
     let l = is.looked in
     first_comes entries modes.Cut config key result new l.exchanges (searches.Failed whys.Link) l.in_order l.begins l.ends (in_cut law entries (first_search config key) (sound_first config key)) (λ g. g)
 
-pub fetched_by_mode : CutDecides → IndefiniteDecides → CodeDecides → (entries : List DirEntry) (mode : Mode) (config : Config) (key : Key) (result : Fetched) (new : Talk Standing) → is_down mode ≡ false → HasCode mode → have_own_dns entries ≡ true → AreShort entries
+pub fetched_by_mode : CutDecides → IndefiniteDecides → CodeDecides → (entries : List DirEntry) (mode : Mode) (config : Config) (key : Key) (result : Fetched) (new : Talk Standing) → is_down mode ≡ false → HasCode mode → have_own_dns entries ≡ true → are_short entries ≡ true
     → IsLookup config key result (fresh entries mode) new → IsLate mode result ⊎ Comes result new (fetched_in mode config entries key)
 unfolding fetched_in
-fetched_by_mode cut indefinite coded entries modes.Up config key result new takes has own short is = inr (by_behind config key entries modes.Up result new (behind_in shortest entries) is (rw own refl) short)
-fetched_by_mode cut indefinite coded entries modes.Long config key result new takes has own short is = inr (by_behind config key entries modes.Long result new (behind_in four_octets entries) is (rw own refl) short)
+fetched_by_mode cut indefinite coded entries modes.Up config key result new takes has own short is = inr (by_behind config key entries modes.Up result new (behind_in shortest entries) is (rw (own, short) refl))
+fetched_by_mode cut indefinite coded entries modes.Long config key result new takes has own short is = inr (by_behind config key entries modes.Long result new (behind_in four_octets entries) is (rw (own, short) refl))
 fetched_by_mode cut indefinite coded entries modes.Down config key result new takes has own short is = absurd cc
 fetched_by_mode cut indefinite coded entries modes.Cut config key result new takes has own short is = inr (in_cut_mode cut entries config key result new is)
 fetched_by_mode cut indefinite coded entries modes.Indef config key result new takes has own short is = inr (in_indefinite_mode indefinite entries config key result new is)

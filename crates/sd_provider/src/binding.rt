@@ -2,12 +2,13 @@
 ghost use Rattle.std.specs.Prelude.{◌≡◌, ℕ, [], ◌⊎◌, false, true, IfOk, Some, None};
 ghost use Rattle.sd_base.specs.declared.Why.TheVariants as whys;
 ghost use Rattle.sd_rules.specs.Scripts.{is_bind_out_of_memory};
+ghost use Rattle.sd_dial.specs.Rooms.{are_short};
 ghost use Rattle.sd_stub_link.specs.Distinct.{have_own_dns};
 ghost use Rattle.sd_stub_link.specs.Modes.{is_down};
 ghost use Rattle.sd_stub_link.specs.Standing.{made};
 ghost use Rattle.sd_provider.specs.Servers as servers;
 
-use crate::keeping::directory_of;
+use crate::looking::short_directory;
 use crate::plain::PlainLink;
 use sd_asking::{bind, decides_alone};
 use sd_base::{Memory, Text, Why};
@@ -28,6 +29,7 @@ fn ask(
     requires takes { is_down mode ≡ false }
     requires coded { servers.HasCode mode }
     requires own { have_own_dns directory.now ≡ true }
+    requires short { are_short directory.now ≡ true }
     requires fresh { client.old ≡ record { link = made directory.now mode [] 0; received = []; at = 0; next = 1; failed = None } }
     ensures { (is_bind_out_of_memory result ≡ true) ⊎ (((client.new.failed ≡ Some whys.Link) × (client.new.link.starved ≡ true)) ⊎ (result ≡ servers.bound_in mode directory.now dn.now password.now)) }
 {
@@ -46,6 +48,7 @@ fn bind_over(
     requires takes { is_down mode ≡ false }
     requires coded { servers.HasCode mode }
     requires own { have_own_dns directory.now ≡ true }
+    requires short { are_short directory.now ≡ true }
     ensures answer { IfOk result (λ bound. bound ≡ servers.bound_in mode directory.now dn.now password.now) }
     ensures memory { IfOk result (λ bound. is_bind_out_of_memory bound ≡ false) }
 {
@@ -78,6 +81,6 @@ pub fn bound_at(
     if mode == Mode::Down {
         return Ok(Bound::Failed(Why::Link));
     }
-    let directory = directory_of(alloc, entries)?;
+    let directory = short_directory(alloc, entries)?;
     bind_over(alloc, &directory, mode, dn, password)
 }

@@ -3,7 +3,7 @@ ghost use Rattle.std.specs.Prelude.{◌≡◌, ℕ, [], ◌⊎◌, false, true, 
 ghost use Rattle.sd_base.specs.declared.Why.TheVariants as whys;
 ghost use Rattle.sd_rules.specs.Lookups.{is_fetched_of_kind};
 ghost use Rattle.sd_rules.specs.Scripts.{is_out_of_memory};
-ghost use Rattle.sd_asking.specs.Rooms.{AreShort};
+ghost use Rattle.sd_dial.specs.Rooms.{are_short};
 ghost use Rattle.sd_stub.specs.Keeping.{kept};
 ghost use Rattle.sd_stub_link.specs.Distinct.{have_own_dns};
 ghost use Rattle.sd_stub_link.specs.Modes.{is_down};
@@ -35,7 +35,7 @@ fn ask(
     requires takes { is_down mode ≡ false }
     requires coded { servers.HasCode mode }
     requires own { have_own_dns directory.now ≡ true }
-    requires short { AreShort directory.now }
+    requires short { are_short directory.now ≡ true }
     requires fresh { client.old ≡ record { link = made directory.now mode [] 0; received = []; at = 0; next = 1; failed = None } }
     ensures comes { ((servers.is_empty_mode mode ≡ true) × (servers.gives_nothing result ≡ false)) ⊎ ((is_out_of_memory result ≡ true) ⊎ (((client.new.failed ≡ Some whys.Link) × (client.new.link.starved ≡ true)) ⊎ (result ≡ servers.fetched_in mode config.now directory.now key.now))) }
     ensures kind { is_fetched_of_kind key.now result ≡ true }
@@ -85,7 +85,7 @@ fn look_over(
     requires takes { is_down mode ≡ false }
     requires coded { servers.HasCode mode }
     requires own { have_own_dns directory.now ≡ true }
-    requires short { AreShort directory.now }
+    requires short { are_short directory.now ≡ true }
     ensures answer { IfOk result (λ fetched. fetched ≡ servers.fetched_in mode config.now directory.now key.now) }
     ensures kind { IfOk result (λ fetched. is_fetched_of_kind key.now fetched ≡ true) }
     ensures memory { IfOk result (λ fetched. is_out_of_memory fetched ≡ false) }
@@ -119,7 +119,7 @@ fn in_memory(fetched: Fetched) -> Result<Fetched, Memory>
 pub fn short_directory(alloc: Global, entries: &[DirEntry]) -> Result<Directory, Memory>
     ensures kept { IfOk result (λ directory. directory ≡ kept entries.now) }
     ensures own { IfOk result (λ directory. have_own_dns directory ≡ true) }
-    ensures short { IfOk result (λ directory. AreShort directory) }
+    ensures short { IfOk result (λ directory. are_short directory ≡ true) }
 {
     if !are_short(entries) {
         return Err(Memory);

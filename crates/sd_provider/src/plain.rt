@@ -112,5 +112,7 @@ impl<'a> DirectoryLink for PlainLink<'a> {
 
     ghost tells_coming = { telling.tells_coming };
 
+    ghost tells_short = { telling.tells_short };
+
     ghost answers = { telling.answers };
 }

@@ -1,7 +1,6 @@
 //! Whether entries are so short that their messages can be told by four octets.
-ghost use Rattle.std.specs.Prelude.{◌≡◌, ℕ, ◌+◌, ◌-◌, ◌^◌, min, nat_lt, List};
-ghost use Rattle.std.specs.List.{list_all};
-ghost use Rattle.sd_asking.specs.Rooms.{text_room, texts_room, attribute_room, attributes_room, entry_room};
+ghost use Rattle.std.specs.Prelude.{◌≡◌, ℕ, ◌-◌, ◌^◌, min, List};
+ghost use Rattle.sd_dial.specs.Rooms.{text_room, texts_room, attribute_room, attributes_room, is_short, are_short};
 
 use sd_base::Text;
 use sd_ldap::{Attribute, DirEntry};
@@ -41,7 +40,7 @@ fn attributes_room(attributes: &[Attribute]) -> u64
 }
 
 fn is_short(entry: &DirEntry) -> bool
-    ensures { result ≡ nat_lt (entry_room entry.now + 64) (2 ^ 32) }
+    ensures { result ≡ is_short entry.now }
 {
     let room = text_room(&entry.dn)
         .saturating_add(attributes_room(entry.attributes.items()))
@@ -50,8 +49,9 @@ fn is_short(entry: &DirEntry) -> bool
 }
 
 /// Whether each entry takes less than 4 GiB in a message, whatever is asked of it.
+#[tactic(auto, unfolding(sd_dial::specs::Rooms::are_short))]
 pub fn are_short(entries: &[DirEntry]) -> bool
-    ensures { result ≡ list_all (λ e. nat_lt (entry_room e + 64) (2 ^ 32)) entries.now }
+    ensures { result ≡ are_short entries.now }
 {
     entries.iter().all(|entry| is_short(entry))
 }

@@ -16,7 +16,6 @@ use Rattle.sd_conf.specs.declared.config.Config.{Config}
 use Rattle.sd_dial.specs.Entries.{Behind}
 use Rattle.sd_dial.specs.Operations.{Operation}
 use Rattle.sd_asking.specs.Binding.{told_bind, IsToldBind}
-use Rattle.sd_asking.specs.Rooms.{AreShort}
 use Rattle.sd_fetch.specs.Lookup.{looked_up}
 use Rattle.sd_fetch.specs.Told.{searches_of, first_failure}
 use Rattle.sd_inquiry.specs.Lookups.{LookupOperations, IsToldFetch}
@@ -115,7 +114,7 @@ pub record NeedsFetch (config : Config) (behind : ℕ → Option Behind) (s : St
   pub key : Key
   pub needed : need_of client ≡ needs.Fetch server key
   pub asked : LookupOperations config key server fetched operations
-  pub told : (b : Behind) → behind server ≡ Some b → AreShort b.entries → IsToldFetch fetched (first_failure b 0 1 (searches_of config b.entries key)) (looked_up config b.entries key)
+  pub told : (b : Behind) → behind server ≡ Some b → IsToldFetch fetched (first_failure b 0 1 (searches_of config b.entries key)) (looked_up config b.entries key)
 
 pub record NeedsBind (behind : ℕ → Option Behind) (s : Stand) (bound : Bound) (operations : List Operation) : Type 0 where
   pub client : Client

@@ -1,10 +1,11 @@
 -- What contracts see of a link to a directory in memory, and what its calls make of it.
-use Rattle.std.specs.Prelude.{◌≡◌, ℕ, ◌+◌, ◌-◌, ◌^◌, ◌<◌, min, Bool, true, false, ◌==◌, if◌then◌else◌, List, [], ◌∷◌, ◌++◌, length, take, drop, Some, None, ◌⊎◌}
+use Rattle.std.specs.Prelude.{◌≡◌, ℕ, ◌+◌, ◌-◌, ◌^◌, ◌<◌, min, Bool, true, false, ◌==◌, ◌&&◌, if◌then◌else◌, List, [], ◌∷◌, ◌++◌, length, take, drop, Some, None, ◌⊎◌}
 use Rattle.std.specs.List.{list_any}
 use Rattle.std.specs.declared.option.Option.{Option}
 use Rattle.sd_ldap.specs.declared.entry.DirEntry.{DirEntry}
 use Rattle.sd_stub.specs.declared.Mode.{Mode}
 use Rattle.sd_dial.specs.Entries.{Framing, Behind}
+use Rattle.sd_dial.specs.Rooms.{are_short}
 use Rattle.sd_stub_link.specs.Distinct.{have_own_dns}
 use Rattle.sd_stub_link.specs.Modes.{answer_by, framing_of, has_ended}
 
@@ -47,9 +48,9 @@ abbrev pub behind_in : Option Framing → List DirEntry → Option Behind
 behind_in (Some framing) entries = Some (record { entries = entries; framing = framing })
 behind_in None entries = None
 
--- a directory is told where each entry has a DN of its own
+-- a directory is told where each entry has a DN of its own, and each is short
 abbrev pub behind_by : Mode → List DirEntry → Option Behind
-behind_by mode entries = if have_own_dns entries then behind_in (framing_of mode) entries else None
+behind_by mode entries = if have_own_dns entries && are_short entries then behind_in (framing_of mode) entries else None
 
 -- it is told in the modes up and long
 abbrev pub behind_of : Standing → Option Behind

@@ -14,6 +14,7 @@ use Rattle.sd_ldap.specs.Sound.{IsSound}
 use Rattle.sd_match.specs.Answering.{same_bytes}
 use Rattle.sd_dial.specs.Asked.{with_message, IsNoMessage}
 use Rattle.sd_dial.specs.Entries.{Behind, HaveOwnDns, answer_behind}
+use Rattle.sd_dial.specs.Rooms.{are_short}
 use Rattle.sd_stub.specs.declared.Mode.{Mode}
 use Rattle.sd_stub.specs.declared.Mode.TheVariants as modes
 use Rattle.sd_stub_link.specs.Sounding.{is_sound}
@@ -99,13 +100,24 @@ told_answers modes.Indef entries put piece known e = absurd cc
 told_answers (modes.Code code) entries put piece known e = absurd cc
 told_answers modes.Down entries put piece known e = absurd cc
 
+-- where a directory is told, its entries pass both tests, and it answers as the mode does
+told_so : (link : Standing) (known : Behind) (put piece : List ℕ) → behind_of link ≡ Some known
+    → (have_own_dns link.entries ≡ true) × ((are_short link.entries ≡ true) × ((known.entries ≡ link.entries) × ((if has_ended link.mode put then [] else answer_by link.mode link.entries piece) ≡ answer_behind known piece)))
+told_so link known put piece e =
+    let h = told_by (have_own_dns link.entries && are_short link.entries) link.entries link.mode known e in
+    let p = and_parts (have_own_dns link.entries) (are_short link.entries) h.0 in
+    (p.0, (p.1, told_answers link.mode link.entries put piece known h.1))
+
 pub tells_coming : (link : Standing) (known : Behind) → behind_of link ≡ Some known → IsSome (coming_of link) × HaveOwnDns known.entries
 tells_coming link known e =
-    let h = told_by (have_own_dns link.entries) link.entries link.mode known e in
-    (refl, subst HaveOwnDns (sym (told_answers link.mode link.entries link.put [] known h.1).0) (own_dns link.entries h.0))
+    let h = told_so link known [] [] e in
+    (refl, subst HaveOwnDns (sym h.1.1.0) (own_dns link.entries h.0))
+
+pub tells_short : (link : Standing) (known : Behind) → behind_of link ≡ Some known → are_short known.entries ≡ true
+tells_short link known e = let h = told_so link known [] [] e in ap are_short h.1.1.0 ∙ h.1.0
 
 pub answers : (link : Standing) (known : Behind) (piece : List ℕ) → behind_of link ≡ Some known → answer_of link piece ≡ answer_behind known piece
-answers link known piece e = (told_answers link.mode link.entries link.put piece known (told_by (have_own_dns link.entries) link.entries link.mode known e).1).1
+answers link known piece e = (told_so link known link.put piece e).1.1.1
 
 -- ---- the bytes to come and those received
 

@@ -134,5 +134,7 @@ impl<'a> DirectoryLink for StubLine<'a> {
 
     ghost tells_coming = { telling.tells_coming };
 
+    ghost tells_short = { telling.tells_short };
+
     ghost answers = { telling.answers };
 }

@@ -1,6 +1,7 @@
 -- The search for sudo rules over a link to a directory in memory.
 use Rattle.std.proofs.Common.{◌≡◌, ℕ, true, false, List, [], ◌∷◌, ◌⊎◌, map, Some, None, refl, sym, ap, subst, ◌∙◌, inl, inr}
 use Rattle.std.specs.Prelude.{if◌then◌else◌}
+use Rattle.std.proofs.lemmas.Bool.{and_from}
 use Rattle.sd_base.specs.declared.Why.{Why}
 use Rattle.sd_base.specs.declared.Why.TheVariants as whys
 use Rattle.sd_ldap.specs.declared.entry.DirEntry.{DirEntry}
@@ -9,7 +10,6 @@ use Rattle.sd_match.specs.Answering.{found, sent}
 use Rattle.sd_dial.specs.declared.searched.Searched.{Searched}
 use Rattle.sd_dial.specs.declared.searched.Searched.TheVariants as searches
 use Rattle.sd_client.specs.Talk.{Talk}
-use Rattle.sd_asking.specs.Rooms.{AreShort}
 use Rattle.sd_stub.specs.declared.Mode.TheVariants as modes
 use Rattle.sd_stub_link.specs.Distinct.{have_own_dns}
 use Rattle.sd_stub_link.specs.Standing.{Standing, rest_of, coming_of}
@@ -21,6 +21,7 @@ use Rattle.sd_fetch.proofs.Walk.{Stands, past_first, walk_failed}
 use Rattle.sd_provider.proofs.Binds.{fresh, fresh_settled}
 use Rattle.sd_provider.proofs.Searches.{telling}
 use Rattle.sd_dial.specs.Entries.{shortest}
+use Rattle.sd_dial.specs.Rooms.{are_short}
 use Rattle.sd_provider.specs.Servers.{behind_in}
 use Rattle.sd_sudo.specs.Asking.{RolesBy}
 use Rattle.sd_sudo.specs.Listing.{roles_of, roles_in}
@@ -38,12 +39,12 @@ plain base = record { unlimited = refl; supported = refl }
 abbrev asked : List ℕ → Searched → Exchange
 asked base searched = record { search = role_search base; searched = searched }
 
-module _ (entries : List DirEntry) (base : List ℕ) (new : Talk Standing) (own : have_own_dns entries ≡ true) (short : AreShort entries) where
+module _ (entries : List DirEntry) (base : List ℕ) (new : Talk Standing) (own : have_own_dns entries ≡ true) (short : are_short entries ≡ true) where
   stands : Stands telling (fresh entries modes.Up) (behind_in shortest entries)
-  stands = record { is = ap (λ b. if b then Some (behind_in shortest entries) else None) own; short = short; quiet = fresh_settled entries modes.Up }
+  stands = record { is = ap (λ b. if b then Some (behind_in shortest entries) else None) (and_from (have_own_dns entries) (are_short entries) own short); quiet = fresh_settled entries modes.Up }
 
   answer : (searched : Searched) → Went telling (fresh entries modes.Up) (asked base searched) new → IsAnswer entries (role_search base) searched
-  answer searched w = answered (behind_in shortest entries) 0 1 (role_search base) searched (plain base) (w.by_directory (behind_in shortest entries) stands.is short stands.quiet)
+  answer searched w = answered (behind_in shortest entries) 0 1 (role_search base) searched (plain base) (w.by_directory (behind_in shortest entries) stands.is stands.quiet)
 
   within : (searched : Searched) → Went telling (fresh entries modes.Up) (asked base searched) new → Gave searched → role_limit entries base ≡ None
   within searched w g = past_first telling (fresh entries modes.Up) (asked base searched) new (behind_in shortest entries) [] w stands g
@@ -74,7 +75,7 @@ module _ (entries : List DirEntry) (base : List ℕ) (new : Talk Standing) (own 
   so (searches.Failed why) w = failed why w
   so searches.Memory w = inr tt
 
-pub roles_by : (entries : List DirEntry) (base : List ℕ) (searched : Searched) (search : SearchValue) (old new : Talk Standing) → have_own_dns entries ≡ true → AreShort entries → old ≡ fresh entries modes.Up → search ≡ role_search base
+pub roles_by : (entries : List DirEntry) (base : List ℕ) (searched : Searched) (search : SearchValue) (old new : Talk Standing) → have_own_dns entries ≡ true → are_short entries ≡ true → old ≡ fresh entries modes.Up → search ≡ role_search base
     → Went telling old (record { search = search; searched = searched }) new → IsStarved new ⊎ RolesBy entries base searched
 roles_by entries base searched search old new own short first is w =
     so entries base new own short searched

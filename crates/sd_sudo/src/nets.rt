@@ -3,7 +3,7 @@ ghost use Rattle.std.specs.Prelude.{◌≡◌, ◌++◌, ◌∷◌, [], ◌⊎�
 ghost use Rattle.std.specs.Option.{option_copied};
 ghost use Rattle.sd_ldap.specs.declared.entry.DirEntry.{DirEntry};
 ghost use Rattle.sd_base.specs.declared.Why.TheVariants as whys;
-ghost use Rattle.sd_asking.specs.Rooms.{AreShort};
+ghost use Rattle.sd_dial.specs.Rooms.{are_short};
 ghost use Rattle.sd_stub.specs.declared.Mode.TheVariants as modes;
 ghost use Rattle.sd_stub_link.specs.Distinct.{have_own_dns};
 ghost use Rattle.sd_stub_link.specs.Standing.{made};
@@ -77,7 +77,7 @@ fn ask(
     net: &Text,
 ) -> Netted
     requires own { have_own_dns directory.now ≡ true }
-    requires short { AreShort directory.now }
+    requires short { are_short directory.now ≡ true }
     requires fresh { client.old ≡ record { link = made directory.now modes.Up [] 0; received = []; at = 0; next = 1; failed = None } }
     ensures { ((client.new.failed ≡ Some whys.Link) × (client.new.link.starved ≡ true)) ⊎ Answers directory.now base.now net.now result }
 {
@@ -108,7 +108,7 @@ fn stands_in(
     net: &Text,
 ) -> Result<bool, Halt>
     requires own { have_own_dns directory.now ≡ true }
-    requires short { AreShort directory.now }
+    requires short { are_short directory.now ≡ true }
     ensures stands { IfOk result (λ stands. IsTold directory.now base.now user.now net.now stands) }
     ensures halt { IfErr result (λ halt. HaltsBy halt (IsLimited directory.now base.now net.now)) }
 {
@@ -141,7 +141,7 @@ pub fn nets_with(
     asked: &[Text],
 ) -> Result<Nets, Halt>
     requires own { have_own_dns directory.now ≡ true }
-    requires short { AreShort directory.now }
+    requires short { are_short directory.now ≡ true }
     ensures within { IfOk result (λ nets. NetsPass directory.now base.now asked.now) }
     ensures stood { IfOk result (λ nets. AreStood directory.now base.now user.now asked.now nets) }
     ensures halt { IfErr result (λ halt. HaltsBy halt (NetsMeet directory.now base.now asked.now)) }

@@ -5,7 +5,7 @@ ghost use Rattle.sd_ldap.specs.Sound.{IsSoundSearch};
 ghost use Rattle.sd_ldap.specs.Values.{search_value};
 ghost use Rattle.sd_ldap.specs.declared.entry.DirEntry.{DirEntry as DirEntryValue};
 ghost use Rattle.sd_roles.specs.Roles.{role_of};
-ghost use Rattle.sd_asking.specs.Rooms.{AreShort};
+ghost use Rattle.sd_dial.specs.Rooms.{are_short};
 ghost use Rattle.sd_fetch.specs.Exchanging.{Telling, Exchange, Went};
 ghost use Rattle.sd_stub.specs.declared.Mode.TheVariants as modes;
 ghost use Rattle.sd_stub_link.specs.Distinct.{have_own_dns};
@@ -67,7 +67,7 @@ fn ask_first(
     request: &SearchRequest,
 ) -> Searched
     requires own { have_own_dns directory.now ≡ true }
-    requires short { AreShort directory.now }
+    requires short { are_short directory.now ≡ true }
     requires fresh { client.old ≡ record { link = made directory.now modes.Up [] 0; received = []; at = 0; next = 1; failed = None } }
     requires sound { IsSoundSearch (search_value request.now) }
     requires is { search_value request.now ≡ searches.role_search base.now }
@@ -93,7 +93,7 @@ fn roles_from(alloc: Global, searched: Searched) -> Result<Vec<Role>, Halt>
 /// The sudo rules at or under a base, in the directory's order. A link that finds no memory is want of memory.
 pub fn roles_under(alloc: Global, directory: &Directory, base: &Text) -> Result<Vec<Role>, Halt>
     requires own { have_own_dns directory.now ≡ true }
-    requires short { AreShort directory.now }
+    requires short { are_short directory.now ≡ true }
     ensures roles { IfOk result (λ roles. HasRoles directory.now base.now roles.items) }
     ensures halt { IfErr result (λ halt. HaltsBy halt (IsMet (role_limit directory.now base.now))) }
 {

@@ -1,6 +1,6 @@
 //! The rules of a directory that apply to one who asks.
 ghost use Rattle.std.specs.Prelude.{◌≡◌, true, IfOk, IfErr};
-ghost use Rattle.sd_asking.specs.Rooms.{AreShort};
+ghost use Rattle.sd_dial.specs.Rooms.{are_short};
 ghost use Rattle.sd_stub.specs.Keeping.{kept};
 ghost use Rattle.sd_stub_link.specs.Distinct.{have_own_dns};
 ghost use Rattle.sd_sudo.specs.Lookups.{HaltsBy};
@@ -28,7 +28,7 @@ fn nets_for(
     roles: &[Role],
 ) -> Result<Nets, Halt>
     requires own { have_own_dns directory.now ≡ true }
-    requires short { AreShort directory.now }
+    requires short { are_short directory.now ≡ true }
     ensures nets { IfOk result (λ nets. AreNets directory.now base.now user.now roles.now nets) }
     ensures halt { IfErr result (λ halt. HaltsBy halt (NetsMeet directory.now base.now (speaking.nets_asked roles.now))) }
 {
@@ -45,7 +45,7 @@ fn chosen(
     roles: Vec<Role>,
 ) -> Result<Vec<Role>, Halt>
     requires own { have_own_dns directory.now ≡ true }
-    requires short { AreShort directory.now }
+    requires short { are_short directory.now ≡ true }
     ensures chosen { IfOk result (λ applied. AreChosen directory.now base.now asker.now roles.items applied.items) }
     ensures halt { IfErr result (λ halt. HaltsBy halt (NetsMeet directory.now base.now (speaking.nets_asked roles.items))) }
 {
@@ -64,7 +64,7 @@ fn rules_for(
     asker: &Asker,
 ) -> Result<Vec<Role>, Halt>
     requires own { have_own_dns directory.now ≡ true }
-    requires short { AreShort directory.now }
+    requires short { are_short directory.now ≡ true }
     ensures rules { IfOk result (λ applied. AreRules directory.now base.now asker.now applied.items) }
     ensures halt { IfErr result (λ halt. HaltsBy halt (RulesMeet directory.now base.now)) }
 {

@@ -23,7 +23,7 @@ returns-clause-answered g c = λ settled used.
     (c.search.ensures.reply used)
 
 pub returns-clause-told : goal.returns-clause-told
-returns-clause-told g c = λ behind is short settled.
+returns-clause-told g c = λ behind is settled.
     let old = c.args.client.now in
     let new = c.search.new.self in
     let s = search_value c.args.request.now in
@@ -34,7 +34,7 @@ returns-clause-told g c = λ behind is short settled.
           let asked : IsAsked behind old.next old.at s old.received (g.L.Link.answer old.link piece) = record {
             sound = c.requires;
             small = omega (arith, used, c.search.ensures.counted);
-            short = short;
+            short = g.met.L.DirectoryLink.tells_short old.link behind is;
             few = settled.short;
             at_is = settled.read;
             answer_is = g.met.L.DirectoryLink.answers old.link behind piece is;
@@ -43,7 +43,7 @@ returns-clause-told g c = λ behind is short settled.
     ]
 
 pub returns-clause-goes_on : goal.returns-clause-goes_on
-returns-clause-goes_on g c = λ behind is short settled has.
+returns-clause-goes_on g c = λ behind is settled has.
     let old = c.args.client.now in
     let new = c.search.new.self in
     let s = search_value c.args.request.now in
@@ -54,7 +54,7 @@ returns-clause-goes_on g c = λ behind is short settled has.
           let asked : IsAsked behind old.next old.at s old.received (g.L.Link.answer old.link piece) = record {
             sound = c.requires;
             small = omega (arith, used, c.search.ensures.counted);
-            short = short;
+            short = g.met.L.DirectoryLink.tells_short old.link behind is;
             few = settled.short;
             at_is = settled.read;
             answer_is = g.met.L.DirectoryLink.answers old.link behind piece is;
@@ -69,7 +69,7 @@ returns-clause-goes_on g c = λ behind is short settled has.
     ]
 
 pub returns-clause-ends : goal.returns-clause-ends
-returns-clause-ends g c = λ behind is short settled used quiet fails.
+returns-clause-ends g c = λ behind is settled used quiet fails.
     let old = c.args.client.now in
     let new = c.search.new.self in
     let s = search_value c.args.request.now in
@@ -78,7 +78,7 @@ returns-clause-ends g c = λ behind is short settled used quiet fails.
     let asked : IsAsked behind old.next old.at s old.received answer = record {
       sound = c.requires;
       small = omega (arith, used, c.search.ensures.counted);
-      short = short;
+      short = g.met.L.DirectoryLink.tells_short old.link behind is;
       few = settled.short;
       at_is = settled.read;
       answer_is = g.met.L.DirectoryLink.answers old.link behind piece is;

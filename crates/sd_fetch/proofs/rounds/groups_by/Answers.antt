@@ -14,9 +14,9 @@ returns-in-Err-clause-name g c =
 pub returns-in-Ok-clause-rounded : goal.returns-in-Ok-clause-rounded
 returns-in-Ok-clause-rounded g c =
     rounded_all _ _ (λ r. r.client.ghost_name) (λ r. r.base.now) (λ r. r.client.now) (λ r. r.is_stopped) (record { goes = λ a x b w. w }) c.args.rounds.now c.groups_of.new.searcher _ _ c.requires c.in-Ok.ensures.exchanged
-    (λ b is short quiet. tells_first _ _ _ b is short quiet)
+    (λ b is quiet. tells_first _ _ _ b is quiet)
 
 pub returns-in-Err-clause-rounded : goal.returns-in-Err-clause-rounded
 returns-in-Err-clause-rounded g c =
     rounded_stop _ _ (λ r. r.client.ghost_name) (λ r. r.base.now) (λ r. r.client.now) (λ r. r.is_stopped) (record { goes = λ a x b w. w }) c.args.rounds.now c.groups_of.new.searcher _ c.early_by.result _ _ c.requires c.early_by.ensures c.in-Err.ensures.exchanged
-    (λ b is short quiet. tells_first _ _ _ b is short quiet)
+    (λ b is quiet. tells_first _ _ _ b is quiet)

@@ -17,5 +17,5 @@ returns c =
       ends = e.ends;
     } in
     let laws = c.decides_alone.ensures in
-    bound_by_mode laws.cut laws.indefinite laws.coded c.args.directory.now c.args.mode c.args.dn.now c.args.password.now c.bind.result c.bind.new.client c.requires.takes c.requires.coded c.requires.own
+    bound_by_mode laws.cut laws.indefinite laws.coded c.args.directory.now c.args.mode c.args.dn.now c.args.password.now c.bind.result c.bind.new.client c.requires.takes c.requires.coded c.requires.own c.requires.short
     (subst (λ (old : Talk Standing). IsBinding c.args.dn.now c.args.password.now c.bind.result old c.bind.new.client) c.requires.fresh is)

@@ -1,5 +1,5 @@
 use Rattle.std.proofs.Common.{◌≡◌, ◌-◌, ◌^◌, min, drop}
-use Rattle.sd_asking.specs.Rooms.{attributes_room}
+use Rattle.sd_dial.specs.Rooms.{attributes_room}
 use Rattle.sd_provider.proofs.room.attributes_room.Given as goal
 
 abbrev pub invariant-loop-place : goal.invariant-loop-place

@@ -1,5 +1,5 @@
 use Rattle.std.proofs.Common.{◌≡◌, ◌-◌, ◌^◌, min, drop}
-use Rattle.sd_asking.specs.Rooms.{texts_room}
+use Rattle.sd_dial.specs.Rooms.{texts_room}
 use Rattle.sd_provider.proofs.room.texts_room.Given as goal
 
 abbrev pub invariant-loop-place : goal.invariant-loop-place

@@ -1,5 +1,6 @@
 -- Entries that fit a message whatever is asked of them: their sizes are told by four octets.
-use Rattle.std.specs.Prelude.{ℕ, ◌+◌, ◌^◌, ◌<◌, List, [], ◌∷◌, length}
+use Rattle.std.specs.Prelude.{ℕ, ◌+◌, ◌^◌, nat_lt, Bool, List, [], ◌∷◌, length}
+use Rattle.std.specs.List.{list_all}
 use Rattle.sd_ldap.specs.declared.entry.Attribute.{Attribute}
 use Rattle.sd_ldap.specs.declared.entry.DirEntry.{DirEntry}
 
@@ -23,7 +24,9 @@ attributes_room (a ∷ attributes) = attribute_room a + attributes_room attribut
 abbrev pub entry_room : DirEntry → ℕ
 entry_room e = text_room e.dn + (6 + attributes_room e.attributes)
 
--- each entry takes less than 4 GiB in a message
-abbrev pub AreShort : List DirEntry → Type 0
-AreShort [] = Unit {0}
-AreShort (e ∷ entries) = (entry_room e + 64 < 2 ^ 32) × AreShort entries
+-- an entry takes less than 4 GiB in a message
+abbrev pub is_short : DirEntry → Bool
+is_short e = nat_lt (entry_room e + 64) (2 ^ 32)
+
+unfoldable pub are_short : List DirEntry → Bool
+are_short entries = list_all (λ (e : DirEntry). is_short e) entries
