@@ -32,7 +32,7 @@ const VALUE: usize = 0;
 const SPINS: u32 = 8;
 
 /// How often it naps before it sleeps until it is woken.
-const NAPS: u32 = 4;
+const NAPS: u32 = 2;
 
 /// A value that one seat at a time may take.
 #[derive(Drop)]
@@ -138,7 +138,8 @@ impl<V: Chronicle> Turn<V> {
     /// Takes the turn, however often it has to try.
     ///
     /// Between two tries it looks at the turn word for a little while at first, then it naps for some microseconds, and
-    /// then it sleeps until a seat that gives the turn back wakes it.
+    /// then it sleeps until a seat that gives the turn back wakes it. Once woken it begins again: the turn is mostly taken
+    /// before it runs, and who slept again at once would wait long.
     pub fn take<R: Wait>(&self, rt: &R, seat: &mut Seat<V>) -> Held<V>
         requires own { IsOwn self.now seat.old }
         requires free { HoldsNoTurn seat.old }
@@ -158,8 +159,7 @@ impl<V: Chronicle> Turn<V> {
             if let Ok(held) = self.try_take(seat) {
                 return held;
             }
-            self.pause(rt, tries);
-            tries = tries.saturating_add(1);
+            tries = self.pause(rt, tries);
         }
         unreachable!()
     }
@@ -178,17 +178,23 @@ impl<V: Chronicle> Turn<V> {
         }
     }
 
-    /// Lets a moment pass after so many tries in vain: it spins, then it naps, then it sleeps until it is woken.
-    fn pause<R: Wait>(&self, rt: &R, tries: u32) {
+    /// Lets a moment pass after so many tries in vain: it spins, then it naps, then it sleeps until it is woken. The result
+    /// is how many tries count afterwards.
+    fn pause<R: Wait>(&self, rt: &R, tries: u32) -> u32 {
         if tries < SPINS {
             self.spin(tries);
-            return;
+            return tries + 1;
         }
         if tries < SPINS + NAPS {
             let nap = Duration::from_micros(1 << (tries - SPINS));
             self.table.shared.park_timeout(rt, TURN, TAKEN as u32, nap);
-            return;
+            return tries + 1;
         }
+        self.sleep(rt);
+        0
+    }
+
+    fn sleep<R: Wait>(&self, rt: &R) {
         self.waiting.fetch_add(1, Ordering::SeqCst);
         self.table.shared.park(rt, TURN, TAKEN as u32);
         self.waiting.fetch_sub(1, Ordering::SeqCst);
