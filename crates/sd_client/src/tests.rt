@@ -167,8 +167,6 @@ impl DirectoryLink for Canned {
 
     ghost tells_coming = { λ link told e. Prim.cc };
 
-    ghost tells_short = { λ link told e. Prim.cc };
-
     ghost answers = { λ link told piece e. Prim.cc };
 }
 
@@ -301,8 +299,6 @@ impl DirectoryLink for Repeating {
     ghost tells_pieces = { λ link some. some };
 
     ghost tells_coming = { λ link told e. Prim.cc };
-
-    ghost tells_short = { λ link told e. Prim.cc };
 
     ghost answers = { λ link told piece e. Prim.cc };
 }

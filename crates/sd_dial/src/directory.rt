@@ -29,10 +29,9 @@ pub trait DirectoryLink: Link {
     ghost keeps: { (before after : Self) (piece : Option (List ℕ)) → Self.went before piece after → behind after ≡ behind before };
     // Who tells the messages asked tells the pieces sent.
     ghost tells_pieces: { (link : Self) → IsSome (asked link) → IsSome (Self.sent link) };
-    // Who tells the directory tells the bytes to come, and no two of the entries have equal DNs.
-    ghost tells_coming: { (link : Self) (told : Behind) → behind link ≡ Some told → IsSome (Self.coming link) × HaveOwnDns told.entries };
-    // Each of the entries told is short: four octets tell the length of a message about it.
-    ghost tells_short: { (link : Self) (told : Behind) → behind link ≡ Some told → are_short told.entries ≡ true };
+    // Who tells the directory tells the bytes to come; no two of the entries have equal DNs, and each is short: four
+    // octets tell the length of a message about it.
+    ghost tells_coming: { (link : Self) (told : Behind) → behind link ≡ Some told → IsSome (Self.coming link) × HaveOwnDns told.entries × (are_short told.entries ≡ true) };
     // The answer to a piece is that of the directory told.
     ghost answers: { (link : Self) (told : Behind) (piece : List ℕ) → behind link ≡ Some told → Self.answer link piece ≡ answer_behind told piece };
 }
@@ -53,8 +52,6 @@ impl DirectoryLink for MemoryLink {
     ghost tells_pieces = { λ link some. refl };
 
     ghost tells_coming = { λ link told e. Prim.cc };
-
-    ghost tells_short = { λ link told e. Prim.cc };
 
     ghost answers = { λ link told piece e. Prim.cc };
 }

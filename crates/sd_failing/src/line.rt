@@ -125,7 +125,5 @@ impl<'d> DirectoryLink for NotedLine<'d> {
 
     ghost tells_coming = { λ link told e. Prim.cc };
 
-    ghost tells_short = { λ link told e. Prim.cc };
-
     ghost answers = { λ link told piece e. Prim.cc };
 }

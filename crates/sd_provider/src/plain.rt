@@ -112,7 +112,5 @@ impl<'a> DirectoryLink for PlainLink<'a> {
 
     ghost tells_coming = { telling.tells_coming };
 
-    ghost tells_short = { telling.tells_short };
-
     ghost answers = { telling.answers };
 }

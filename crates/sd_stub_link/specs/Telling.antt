@@ -108,13 +108,10 @@ told_so link known put piece e =
     let p = and_parts (have_own_dns link.entries) (are_short link.entries) h.0 in
     (p.0, (p.1, told_answers link.mode link.entries put piece known h.1))
 
-pub tells_coming : (link : Standing) (known : Behind) → behind_of link ≡ Some known → IsSome (coming_of link) × HaveOwnDns known.entries
+pub tells_coming : (link : Standing) (known : Behind) → behind_of link ≡ Some known → IsSome (coming_of link) × HaveOwnDns known.entries × (are_short known.entries ≡ true)
 tells_coming link known e =
     let h = told_so link known [] [] e in
-    (refl, subst HaveOwnDns (sym h.1.1.0) (own_dns link.entries h.0))
-
-pub tells_short : (link : Standing) (known : Behind) → behind_of link ≡ Some known → are_short known.entries ≡ true
-tells_short link known e = let h = told_so link known [] [] e in ap are_short h.1.1.0 ∙ h.1.0
+    (refl, (subst HaveOwnDns (sym h.1.1.0) (own_dns link.entries h.0), ap are_short h.1.1.0 ∙ h.1.0))
 
 pub answers : (link : Standing) (known : Behind) (piece : List ℕ) → behind_of link ≡ Some known → answer_of link piece ≡ answer_behind known piece
 answers link known piece e = (told_so link known link.put piece e).1.1.1

@@ -134,7 +134,5 @@ impl<'a> DirectoryLink for StubLine<'a> {
 
     ghost tells_coming = { telling.tells_coming };
 
-    ghost tells_short = { telling.tells_short };
-
     ghost answers = { telling.answers };
 }

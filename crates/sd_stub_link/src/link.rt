@@ -331,7 +331,5 @@ impl<'a> DirectoryLink for StubLink<'a> {
 
     ghost tells_coming = { telling.tells_coming };
 
-    ghost tells_short = { telling.tells_short };
-
     ghost answers = { telling.answers };
 }

@@ -151,7 +151,5 @@ impl<'r, R: Net + Clock> DirectoryLink for TcpLink<'r, R> {
 
     ghost tells_coming = { λ link told e. Prim.cc };
 
-    ghost tells_short = { λ link told e. Prim.cc };
-
     ghost answers = { λ link told piece e. Prim.cc };
 }
