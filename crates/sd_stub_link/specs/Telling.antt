@@ -111,7 +111,7 @@ told_so link known put piece e =
 pub tells_coming : (link : Standing) (known : Behind) → behind_of link ≡ Some known → IsSome (coming_of link) × HaveOwnDns known.entries × (are_short known.entries ≡ true)
 tells_coming link known e =
     let h = told_so link known [] [] e in
-    (refl, (subst HaveOwnDns (sym h.1.1.0) (own_dns link.entries h.0), ap are_short h.1.1.0 ∙ h.1.0))
+    (refl, subst HaveOwnDns (sym h.1.1.0) (own_dns link.entries h.0), ap are_short h.1.1.0 ∙ h.1.0)
 
 pub answers : (link : Standing) (known : Behind) (piece : List ℕ) → behind_of link ≡ Some known → answer_of link piece ≡ answer_behind known piece
 answers link known piece e = (told_so link known link.put piece e).1.1.1
