@@ -25,6 +25,6 @@ put-requires-clause-none g c =
 pub invariant_of-self-2 : goal.invariant_of-self-2
 invariant_of-self-2 g c =
     held_after c.self.inside.settings c.self.inside.next c.self.inside.floor c.self.inside.text_bytes c.of_event.result c.self.inside.has_stopped c.stops_after-has_stopped.result
-    (g.P.Past.entries c.self.inside.past) (g.P.Past.entries c.put.new.self) c.args.entry c.self.invariant c.in_ok-put.ensures.ok c.of_event.ensures c.stops_after-has_stopped.ensures
+    (g.P.Past.entries c.self.inside.past) (g.P.Past.entries c.put.new.self) c.args.entry c.self.invariant.0 c.in_ok-put.ensures.ok c.of_event.ensures c.stops_after-has_stopped.ensures
     (subst (λ (d : Daemon). IsSound (recorded d c.args.entry)) (sym c.self.view_is) c.requires.sound)
     (subst (λ (d : Daemon). IsKept (recorded d c.args.entry)) (sym c.self.view_is) c.requires.kept)
