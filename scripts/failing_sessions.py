@@ -9,12 +9,17 @@ spelled by RFC 4511, and a client's request goes on as docs/DEFINITIONS.md tells
 prints nothing. It knows lookups of users, logins and the words offline and stop: what the cases need."""
 import sys
 
+import ldap_reading as ldap
+
 TIMEOUT, ABSENT_TIMEOUT, OFFLINE_TIMEOUT, SERVER_DOWN, MIDPOINT = 5400, 15, 60, 30, 50
+# The most bytes that come over a link before its client gives up.
+MOST_OF_LINK = 64 << 20
 PASSWORD = "wonderland"
 LINE = "alice:*:1000:1000::/home/alice:/bin/sh"
 # What the directory sends of alice: her password is never sent.
 SENT = (("objectClass", "posixAccount"), ("uid", "alice"), ("uidNumber", "1000"), ("gidNumber", "1000"),
         ("homeDirectory", "/home/alice"), ("loginShell", "/bin/sh"))
+ALICE = (b"uid=alice,dc=test", [(name.encode(), [value.encode()]) for name, value in SENT])
 
 
 def element(tag, body):
@@ -33,11 +38,15 @@ def result(tag, code):
 
 def entry_of_alice():
     attributes = b"".join(element(0x30, element(4, name.encode()) + element(0x31, element(4, value.encode()))) for name, value in SENT)
-    return message(element(0x64, element(4, b"uid=alice,dc=test") + element(0x30, attributes)))
+    return message(element(ldap.ENTRY, element(4, b"uid=alice,dc=test") + element(0x30, attributes)))
 
 
 class Failed(Exception):
-    """The link fell, or what came is no message."""
+    """The link fell."""
+
+
+class NoReply(Failed):
+    """What came over a link, which stands, is no reply."""
 
 
 class Run:
@@ -67,8 +76,7 @@ class Run:
         return answer
 
     def over_a_line(self, server, word, answer):
-        """One request over a line of its own: it is answered whole, or raises why not."""
-        self.line_failed = True
+        """One request over a line of its own: the entries of its reply, or raises why there is none."""
         if self.fails("dial"):
             self.faults += 1
             raise Failed("link")
@@ -77,28 +85,41 @@ class Run:
             if self.fails("send"):
                 raise Failed("link")
             self.asked.append(word)
-            self.receive(self.spoilt(answer), answer)
-        except Failed:
-            # A client that failed sends no unbind. Bytes that are no message are no fault of the line.
-            self.faults += 1 if self.line_failed else 0
+            entries = self.reply(self.spoilt(answer), ldap.DONE if word == "search" else ldap.BOUND)
+        except Failed as why:
+            # A client that failed sends no unbind.
+            self.faults += 0 if isinstance(why, NoReply) else 1
             raise
         if self.fails("send"):
             self.faults += 1
         else:
             self.asked.append("unbind")
+        return entries
 
-    def receive(self, coming, answer):
-        at = 0
-        while at < len(answer):
-            if self.fails("receive") or at >= len(coming):
-                raise Failed("link")
-            at = min(len(coming), at + self.case["receives"])
-            received, self.line_failed = coming[:at], False
-            if received[0] != 0x30:
-                raise Failed("bytes 0")
-            if len(received) > 1 and (received[1] == 0x80 or received[1] > 0x84):
-                raise Failed("bytes 1")
-            self.line_failed = True
+    def reply(self, coming, last):
+        """The entries in front of the message that ends a reply. What has another id is passed over, and so are references."""
+        if self.trouble[0] == "others":
+            raise NoReply("flood %d" % (MOST_OF_LINK + 1))
+        entries, at, received = [], 0, 0
+        while True:
+            try:
+                message = ldap.read_message(coming[at:received])
+            except ldap.Wrong as place:
+                raise NoReply("bytes %s" % place) from None
+            if message is None:
+                if self.fails("receive") or received == len(coming):
+                    raise Failed("link")
+                received = min(len(coming), received + self.case["receives"])
+                continue
+            number, tag, contents, length = message
+            at += length
+            if number != 1 or tag == ldap.REFERENCE:
+                continue
+            if tag == last:
+                return entries
+            if tag != ldap.ENTRY or last != ldap.DONE:
+                raise NoReply("message %d" % tag)
+            entries.append(contents)
 
 
 class JournalFull(Exception):
@@ -258,8 +279,9 @@ class Session:
         """Asks for a user: the number and the word of its answer, or the outage."""
         def ask(server):
             entries = entry_of_alice() if name == "alice" else b""
-            self.run.over_a_line(server, "search", entries + result(0x65, 0))
-            return ("answer", request, "found" if name == "alice" else "absent")
+            found = self.run.over_a_line(server, "search", entries + result(ldap.DONE, 0))
+            assert found in ([], [ALICE]), "no case is to find another"
+            return ("answer", request, "found" if found else "absent")
         return self.over_servers(request, ask)
 
     def look_up(self, name):
@@ -269,7 +291,7 @@ class Session:
         if reply[0] == "lead":
             number, reply = self.fetch(number, name)
             if reply[0] == "closed":
-                reply = ("fresh", number) if name == "alice" else ("gone", number)
+                reply = ("fresh" if self.daemon.entry(number)[2][2] == "found" else "gone", number)
             else:
                 reply = reply[1:]
         word = reply[0]
@@ -302,7 +324,7 @@ class Session:
             code = 0 if password == PASSWORD else 49
 
             def ask(server):
-                self.run.over_a_line(server, "bind", result(0x61, code))
+                self.run.over_a_line(server, "bind", result(ldap.BOUND, code))
                 return ("result", attempt, "wrong" if code else "right")
             number, _ = self.over_servers(attempt, ask)
             if self.daemon.entry(number)[2][0] == "result":
@@ -376,6 +398,8 @@ def name_of_run(trouble):
         return "cut behind %d" % trouble[1]
     if kind == "byte":
         return "byte %d is %d" % trouble[1]
+    if kind == "others":
+        return "messages of another id without end"
     return "%s %d%s" % (kind, trouble[1], "" if trouble[1] == trouble[2] else " and on")
 
 
@@ -424,8 +448,8 @@ def take_line(case, words):
         case["runs"] += [("cut", length) for length in range(int(rest[0]))]
     elif word == "byte":
         case["runs"].append(("byte", (int(rest[0]), int(rest[1]))))
-    elif word == "none":
-        case["runs"].append(("none",))
+    elif word in ("none", "others"):
+        case["runs"].append((word,))
 
 
 def main():

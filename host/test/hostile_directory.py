@@ -4,7 +4,7 @@ processes (1) answer. What it answers about a user is told by the name: a user m
 of them; else by the word in front of the dash.
 
     mutated   some bytes or bits changed            cut       the end after some bytes
-    reset     the same by a reset                   length    an outer length that is false
+    reset     the same by a reset, or as it comes   length    an outer length that is false
     deep      33 elements within each other         code      a result code
     many      three entries                         notice    a notice of disconnection, and the end
     others    messages of another number, no end    references, entries   such messages without end
@@ -99,8 +99,14 @@ class Ends(Exception):
     pass
 
 
+def reset(stream):
+    stream.setsockopt(socket.SOL_SOCKET, socket.SO_LINGER, struct.pack("ii", 1, 0))
+    stream.close()
+
+
 class Connection(threading.Thread):
     asked, answered = {}, {}
+    resets_next = False
     lock = threading.Lock()
 
     def __init__(self, stream, seed):
@@ -137,10 +143,6 @@ class Connection(threading.Thread):
         with self.lock:
             self.answered[word] = self.answered.get(word, 0) + 1
 
-    def reset(self):
-        self.stream.setsockopt(socket.SOL_SOCKET, socket.SO_LINGER, struct.pack("ii", 1, 0))
-        raise Ends
-
     def without_end(self, message):
         chunk = message * max(1, 65536 // len(message))
         for _ in range(MOST // len(chunk)):
@@ -163,8 +165,11 @@ class Connection(threading.Thread):
             send(whole[:dice.randrange(len(whole))])
             raise Ends
         if word == "reset":
-            send(whole[:dice.randrange(len(whole))])
-            self.reset()
+            send(whole[:dice.choice((0, dice.randrange(len(whole)), len(whole)))])
+            reset(self.stream)
+            if dice.randrange(4) == 0:
+                Connection.resets_next = True
+            raise Ends
         if word == "length":
             send(whole[:1] + dice.choice(FALSE_LENGTHS) + whole[2:])
             raise Ends
@@ -201,6 +206,10 @@ class Connection(threading.Thread):
 def answer_all(listener, seed):
     while True:
         stream, _ = listener.accept()
+        if Connection.resets_next:
+            Connection.resets_next = False
+            reset(stream)
+            continue
         stream.setsockopt(socket.IPPROTO_TCP, socket.TCP_NODELAY, 1)
         Connection(stream, seed).start()
 
