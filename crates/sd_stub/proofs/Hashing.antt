@@ -1,11 +1,11 @@
 -- Equal DNs and equal values have equal numbers.
-use Rattle.std.proofs.Common.{◌≡◌, ◌≢◌, ℕ, zero, suc, ◌+◌, ◌-◌, ◌*◌, ◌%◌, ◌<◌, ◌≤◌, Bool, true, false, eqb, leb, List, [], ◌∷◌, ◌++◌, length, drop, map, refl, sym, ap, ◌∙◌, subst, arith, inl, inr, Option, Some, None}
-use Rattle.std.specs.Prelude.{◌⊎◌, ◌&&◌, ◌||◌, if◌then◌else◌, nat_le, fold, flat_map, codes, Result, Ok, Err, is_ok}
+use Rattle.std.proofs.Common.{◌≡◌, ◌≢◌, ℕ, zero, suc, ◌+◌, ◌-◌, ◌*◌, ◌%◌, Bool, true, false, eqb, List, [], ◌∷◌, length, drop, map, refl, sym, ap, ◌∙◌, arith, inl, inr, Option, Some, None}
+use Rattle.std.specs.Prelude.{◌⊎◌, ◌&&◌, ◌||◌, if◌then◌else◌, nat_le, fold, codes, Result, Ok, Err, is_ok}
 use Rattle.std.specs.Result.{result_ok}
 use Rattle.std.specs.List.{list_any, list_all}
 use Rattle.std.specs.Char.{to_ascii_lowercase}
 use Rattle.std.specs.Cmp.Lexicographic.{bytes_decides}
-use Rattle.std.proofs.lemmas.Bool.{cases_Bool, eq-eqb, eqb-true}
+use Rattle.std.proofs.lemmas.Bool.{cases_Bool, eqb-true}
 use Rattle.std.proofs.lemmas.List.{drop-map}
 use Rattle.std.proofs.lemmas.List.Folds.{list_any-append}
 use Rattle.sd_entry.specs.Values.{is_digit, value_of}
@@ -19,7 +19,7 @@ use Rattle.sd_match.specs.Matching.{holds_dns, holds_numbers, are_digits, equal_
 use Rattle.sd_match.specs.Answering.{is_child, in_scope}
 use Rattle.sd_stub.specs.declared.naming.Part.{Part}
 use Rattle.sd_stub.specs.Naming.{lower, lower_pair, lower_dn}
-use Rattle.sd_stub.specs.Numbers.{one_more, mixed, bytes_number, level_number, levels_number, base_numbers, base_number, dn_value_number, text_value_number, value_number, values_numbers, attributes_numbers, place_numbers, entry_numbers}
+use Rattle.sd_stub.specs.Numbers.{one_more, mixed, bytes_number, levels_number, base_numbers, base_number, dn_value_number, text_value_number, value_number, values_numbers, attributes_numbers, place_numbers, entry_numbers}
 use Rattle.sd_stub.proofs.Names.{texts_same, dns_same, levels_decide, texts_equal}
 
 both_so : (s t : Bool) → (s && t) ≡ true → (s ≡ true) × (t ≡ true)

@@ -1,6 +1,8 @@
 mod Names
 mod Places
 mod Covering
+mod Rising
+mod Slots
 mod Hashing
 mod Indexing
 mod Near

@@ -1,5 +1,5 @@
--- Entries by their names.
-use Rattle.std.proofs.Common.{◌≡◌, ℕ, ◌+◌, ◌<◌, ◌≤◌, Bool, true, false, eqb, List, [], ◌∷◌, length, map, refl, sym, ap, ◌∙◌, subst, arith, inl, inr, Option, Some, None}
+-- Names, and the places that are kept for them.
+use Rattle.std.proofs.Common.{◌≡◌, ℕ, Bool, true, false, eqb, List, [], ◌∷◌, map, refl, sym, ap, ◌∙◌, subst, inl, inr, Option, Some, None, cond}
 use Rattle.std.specs.Prelude.{◌&&◌}
 use Rattle.std.specs.Cmp.Lexicographic.{pointwise, pointwise_decides, bytes_decides}
 use Rattle.std.specs.Char.{to_ascii_lowercase, eq_ignore_ascii_case}
@@ -7,14 +7,11 @@ use Rattle.std.proofs.lemmas.Bool.{cases_Bool, cases_eq, eq-eqb, ne_eqb}
 use Rattle.indexmap.specs.IndexMap.{insert_entry}
 use Rattle.sd_dn.specs.declared.Pair.{Pair}
 use Rattle.sd_dn.specs.Comparing.{same_list, same_text, same_pair, same_rdn, same_dn}
-use Rattle.sd_dn.specs.Texts.{spelled, both_meet, same_dn_text}
-use Rattle.sd_ldap.specs.declared.entry.DirEntry.{DirEntry}
+use Rattle.sd_dn.specs.Texts.{both_meet}
 use Rattle.sd_stub.specs.declared.naming.Part.{Part}
 use Rattle.sd_stub.specs.declared.naming.Level.{Level}
 use Rattle.sd_stub.specs.declared.naming.Name.{Name}
-use Rattle.sd_stub.specs.declared.naming.Name.TheVariants.{Known, Unknown}
-use Rattle.sd_stub.specs.Keeping.{put}
-use Rattle.sd_stub.specs.Naming.{lower, lower_pair, lower_dn, parts_of, IsNameOf, IsNameBelow, AreNamed, names_equal, entries_of}
+use Rattle.sd_stub.specs.Naming.{lower, lower_pair, lower_dn, parts_of, parts, lowered, names_equal, place_named}
 
 -- two texts, two pairs and two lists of pairs
 
@@ -85,100 +82,72 @@ parts_decide p q = (
 pub levels_decide : (a b : List (List Part)) → levels_equal a b ≡ true → a ≡ b
 levels_decide a b h = (pointwise_decides (pointwise_decides parts_decide) a b).0 h
 
--- ---- a name against those of entries that are there
+-- ---- names and the DNs that texts spell
 
-name_test : (k n : Name) (count : ℕ) (new old : Option (List (List Pair))) → IsNameOf k count new → IsNameBelow n count old → names_equal k n ≡ both_meet same_dn old new
-name_test (Known a) (Known b) count (Some new) (Some old) h g =
-    known_equal a.items b.items
-    ∙ ap (λ (x : List (List Part)). levels_equal x (parts_of b.items)) h
-    ∙ ap (λ (x : List (List Part)). levels_equal (lower_dn new) x) g
-    ∙ dns_same new old
-name_test (Known a) (Unknown m) count (Some new) None h g = refl
-name_test (Unknown n) (Known b) count None (Some old) h g = refl
-name_test (Unknown n) (Unknown m) count None None h g = ne_eqb n m (λ e. absurd (omega (arith, e, h, g)))
-name_test (Known a) n count None old h g = absurd h
-name_test (Unknown m) n count (Some new) old h g = absurd h
-name_test k (Known b) count new None h g = absurd g
-name_test k (Unknown m) count new (Some old) h g = absurd g
+-- names are equal where their parts are
+equal_parts : (a b : Name) → names_equal a b ≡ levels_equal (parts a) (parts b)
+equal_parts a b = known_equal a.levels.items b.levels.items
 
--- a name that equals that of an entry names the entry in its place too
-name_stays : (k n : Name) (count : ℕ) (new old : Option (List (List Pair))) → IsNameOf k count new → IsNameBelow n count old → names_equal k n ≡ true → IsNameBelow n count new
-name_stays (Known a) (Known b) count (Some new) (Some old) h g e =
-    let same : parts_of a.items ≡ parts_of b.items = levels_decide (parts_of a.items) (parts_of b.items) (sym (known_equal a.items b.items) ∙ e) in
-    sym same ∙ h
-name_stays (Known a) (Unknown m) count (Some new) None h g e = cc
-name_stays (Unknown n) (Known b) count None (Some old) h g e = cc
-name_stays (Unknown n) (Unknown m) count None None h g e = g
-name_stays (Known a) n count None old h g e = absurd h
-name_stays (Unknown m) n count (Some new) old h g e = absurd h
-name_stays k (Known b) count new None h g e = absurd g
-name_stays k (Unknown m) count new (Some old) h g e = absurd g
+pub equal_of : (a b : Name) → parts a ≡ parts b → names_equal a b ≡ true
+equal_of a b e = equal_parts a b ∙ (pointwise_decides (pointwise_decides parts_decide) (parts a) (parts b)).1 e
 
-name_below : (k : Name) (count more : ℕ) (new : Option (List (List Pair))) → count < more → IsNameOf k count new → IsNameBelow k more new
-name_below (Known a) count more (Some new) lt h = h
-name_below (Known a) count more None lt h = absurd h
-name_below (Unknown n) count more (Some new) lt h = absurd h
-name_below (Unknown n) count more None lt h = omega (arith, h, lt)
+pub parts_same : (a b : Name) → names_equal a b ≡ true → parts a ≡ parts b
+parts_same a b e = levels_decide (parts a) (parts b) (sym (equal_parts a b) ∙ e)
 
-name_later : (n : Name) (count more : ℕ) (old : Option (List (List Pair))) → count ≤ more → IsNameBelow n count old → IsNameBelow n more old
-name_later (Known a) count more (Some old) le h = h
-name_later (Known a) count more None le h = absurd h
-name_later (Unknown n) count more (Some old) le h = absurd h
-name_later (Unknown n) count more None le h = omega (arith, h, le)
+-- DNs that meet are the same in lower case
+pub met_lowered : (a b : Option (List (List Pair))) → both_meet same_dn a b ≡ true → lowered a ≡ lowered b
+met_lowered (Some a) (Some b) h = let e : lower_dn b ≡ lower_dn a = levels_decide (lower_dn b) (lower_dn a) (dns_same b a ∙ h) in ap (λ (x : List (List Part)). Some x) (sym e)
+met_lowered (Some a) None h = cc
+met_lowered None b h = cc
 
-named_later : (es : List (Name × DirEntry)) (count more : ℕ) → count ≤ more → AreNamed es count → AreNamed es more
-named_later [] count more le h = tt
-named_later (p ∷ rest) count more le h = (name_later p.0 count more (spelled p.1.dn) le h.0, named_later rest count more le h.1)
+some_same : (a b : List (List Part)) → Some a ≡ Some b → a ≡ b
+some_same a b e = cc
 
-abbrev pub with_named : List (Name × DirEntry) → Name → DirEntry → List (Name × DirEntry)
-with_named es k e = insert_entry names_equal es k e
+pub lowered_met : (a b : Option (List (List Pair))) (ps : List (List Part)) → lowered a ≡ Some ps → lowered b ≡ Some ps → both_meet same_dn a b ≡ true
+lowered_met (Some a) (Some b) ps h g =
+    let e : lower_dn b ≡ lower_dn a = some_same (lower_dn b) (lower_dn a) (g ∙ sym h) in
+    sym (dns_same b a) ∙ (pointwise_decides (pointwise_decides parts_decide) (lower_dn b) (lower_dn a)).1 e
+lowered_met (Some a) None ps h g = cc
+lowered_met None b ps h g = cc
 
--- an entry is put by its name where it is put by its DN
-pub put_named : (es : List (Name × DirEntry)) (count : ℕ) (k : Name) (e : DirEntry) → IsNameOf k count (spelled e.dn) → AreNamed es count → entries_of (with_named es k e) ≡ put (entries_of es) e
-put_named [] count k e h named = refl
-put_named (p ∷ rest) count k e h named =
-    let test : names_equal k p.0 ≡ same_dn_text p.1.dn e.dn = name_test k p.0 count (spelled e.dn) (spelled p.1.dn) h named.0 in
-    elim (cases_Bool (names_equal k p.0)) [
-      | inl equal ↦ let same : same_dn_text p.1.dn e.dn ≡ true = sym test ∙ equal in rw (equal, same) refl
-      | inr differ ↦ let other : same_dn_text p.1.dn e.dn ≡ false = sym test ∙ differ in rw (differ, other) (ap (λ (x : List DirEntry). p.1 ∷ x) (put_named rest count k e h named.1))
-    ]
+pub never_met : (a b : Option (List (List Pair))) → lowered b ≡ None → both_meet same_dn a b ≡ false
+never_met (Some a) (Some b) h = cc
+never_met (Some a) None h = refl
+never_met None b h = refl
 
-grows : (es : List (Name × DirEntry)) (k : Name) (e : DirEntry) → length es ≤ length (with_named es k e)
-grows [] k e = omega arith
-grows (p ∷ rest) k e =
-    elim (cases_Bool (names_equal k p.0)) [
-      | inl equal ↦ rw equal (omega arith)
-      | inr differ ↦ let more = grows rest k e in rw differ (omega (arith, more))
-    ]
+-- ---- the place of a name
 
--- a number that is the count of the entries is no other's, and stays so where an entry is added
-pub named_more : (es : List (Name × DirEntry)) (count more : ℕ) (k : Name) (e : DirEntry) → count + length (with_named es k e) ≡ more + length es → IsNameOf k count (spelled e.dn) → AreNamed es count → AreNamed (with_named es k e) more
-named_more [] count more k e size h named = (name_below k count more (spelled e.dn) (omega (arith, size)) h, tt)
-named_more (p ∷ rest) count more k e size h named =
-    let le : count ≤ more = let grown = grows (p ∷ rest) k e in omega (arith, size, grown) in
+pub place_same : (names : List (Name × ℕ)) (a b : Name) → parts a ≡ parts b → place_named names a ≡ place_named names b
+place_same [] a b e = refl
+place_same (p ∷ ps) a b e =
+    let test : names_equal a p.0 ≡ names_equal b p.0 = equal_parts a p.0 ∙ ap (λ (x : List (List Part)). levels_equal x (parts p.0)) e ∙ sym (equal_parts b p.0) in
+    ap (λ (t : Bool). cond t (Some p.1) (place_named ps a)) test ∙ ap (λ (r : Option ℕ). cond (names_equal b p.0) (Some p.1) r) (place_same ps a b e)
+
+over : (a : Bool) (n m : ℕ) (r : Option ℕ) → cond a (Some n) r ≡ cond a (Some n) (cond a (Some m) r)
+over true n m r = refl
+over false n m r = refl
+
+turned : (a b : Bool) (x y r : Option ℕ) → (a ≡ true → b ≡ true → ⊥) → cond a x (cond b y r) ≡ cond b y (cond a x r)
+turned true true x y r h = absurd (h refl refl)
+turned true false x y r h = refl
+turned false true x y r h = refl
+turned false false x y r h = refl
+
+pub place_put : (names : List (Name × ℕ)) (k q : Name) (n : ℕ) → place_named (insert_entry names_equal names k n) q ≡ cond (names_equal q k) (Some n) (place_named names q)
+place_put [] k q n = refl
+place_put (p ∷ ps) k q n =
     elim (cases_Bool (names_equal k p.0)) [
       | inl equal ↦
-          rw equal (
-            name_later p.0 count more (spelled e.dn) le (name_stays k p.0 count (spelled e.dn) (spelled p.1.dn) h named.0 equal),
-            named_later rest count more le named.1,
-          )
+          let same : parts k ≡ parts p.0 = parts_same k p.0 equal in
+          let test : names_equal q k ≡ names_equal q p.0 = equal_parts q k ∙ ap (λ (x : List (List Part)). levels_equal (parts q) x) same ∙ sym (equal_parts q p.0) in
+          let kept : place_named (insert_entry names_equal (p ∷ ps) k n) q ≡ cond (names_equal q p.0) (Some n) (place_named ps q) = rw equal refl in
+          kept ∙ over (names_equal q p.0) n p.1 (place_named ps q) ∙ ap (λ (t : Bool). cond t (Some n) (cond (names_equal q p.0) (Some p.1) (place_named ps q))) (sym test)
       | inr differ ↦
-          let rest_size : count + length (with_named rest k e) ≡ more + length rest = let own = rw differ at size in omega (arith, own) in
-          rw differ (name_later p.0 count more (spelled p.1.dn) le named.0, named_more rest count more k e rest_size h named.1)
+          let kept : place_named (insert_entry names_equal (p ∷ ps) k n) q ≡ cond (names_equal q p.0) (Some p.1) (place_named (insert_entry names_equal ps k n) q) = rw differ refl in
+          let apart : names_equal q p.0 ≡ true → names_equal q k ≡ true → ⊥ = λ e g.
+          let both : names_equal k p.0 ≡ true = equal_of k p.0 (sym (parts_same q k g) ∙ parts_same q p.0 e) in
+          let bad : true ≡ false = sym both ∙ differ in
+          cc in
+          kept ∙ ap (λ (r : Option ℕ). cond (names_equal q p.0) (Some p.1) r) (place_put ps k q n)
+          ∙ turned (names_equal q p.0) (names_equal q k) (Some p.1) (Some n) (place_named ps q) apart
     ]
-
--- ---- one entry more, under the count of those that are there
-
-named_as : (es : List (Name × DirEntry)) (count : ℕ) (k : Name) (e placed : DirEntry) → placed ≡ e → count ≡ length es → IsNameOf k count (spelled placed.dn) → IsNameOf k (length es) (spelled e.dn)
-named_as es count k e placed e1 e2 h = subst (λ (n : ℕ). IsNameOf k n (spelled e.dn)) e2 (subst (λ (x : DirEntry). IsNameOf k count (spelled x.dn)) e1 h)
-
-pub named_put : (es new : List (Name × DirEntry)) (count : ℕ) (k : Name) (e placed : DirEntry) → placed ≡ e → count ≡ length es → IsNameOf k count (spelled placed.dn) → AreNamed es (length es)
-    → new ≡ with_named es k placed → entries_of new ≡ put (entries_of es) e
-named_put es new count k e placed e1 e2 h named made =
-    ap entries_of (made ∙ ap (with_named es k) e1) ∙ put_named es (length es) k e (named_as es count k e placed e1 e2 h) named
-
-pub named_next : (es new : List (Name × DirEntry)) (count : ℕ) (k : Name) (e placed : DirEntry) → placed ≡ e → count ≡ length es → IsNameOf k count (spelled placed.dn) → AreNamed es (length es)
-    → new ≡ with_named es k placed → AreNamed new (length new)
-named_next es new count k e placed e1 e2 h named made =
-    let all : new ≡ with_named es k e = made ∙ ap (with_named es k) e1 in
-    subst (λ (x : List (Name × DirEntry)). AreNamed x (length x)) (sym all) (named_more es (length es) (length (with_named es k e)) k e (omega arith) (named_as es count k e placed e1 e2 h) named)

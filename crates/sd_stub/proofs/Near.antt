@@ -1,23 +1,22 @@
--- Where the entries are that a search finds or a bind names.
-use Rattle.std.proofs.Common.{◌≡◌, ◌≢◌, ℕ, zero, suc, ◌+◌, ◌<◌, Bool, true, false, List, [], ◌∷◌, length, drop, get_or, refl, sym, ap, ◌∙◌, subst, arith, inl, inr, Option, Some, None}
-use Rattle.std.specs.Prelude.{◌⊎◌, ◌&&◌, slice_get}
+-- Where the slots are that a search finds or a bind names.
+use Rattle.std.proofs.Common.{◌≡◌, ◌≢◌, ℕ, zero, suc, ◌<◌, Bool, true, false, List, [], ◌∷◌, length, get_or, refl, sym, ap, ◌∙◌, subst, arith, inl, inr, Option}
+use Rattle.std.specs.Prelude.{◌⊎◌, ◌&&◌}
 use Rattle.std.specs.List.{list_any}
-use Rattle.std.proofs.lemmas.List.{drop_more}
 use Rattle.sd_dn.specs.declared.Pair.{Pair}
-use Rattle.sd_dn.specs.Comparing.{same_dn, ends_with}
+use Rattle.sd_dn.specs.Comparing.{ends_with}
 use Rattle.sd_dn.specs.Texts.{spelled, both_meet}
 use Rattle.sd_ldap.specs.declared.filter.Filter.{Filter}
 use Rattle.sd_ldap.specs.declared.entry.Attribute.{Attribute}
 use Rattle.sd_ldap.specs.declared.entry.DirEntry.{DirEntry}
-use Rattle.sd_ldap.specs.Filters.{FilterValue, filter_value, filter_values, filters_of, both}
+use Rattle.sd_ldap.specs.Filters.{FilterValue, filter_value, filter_values}
 use Rattle.sd_ldap.specs.Values.{SearchValue}
 use Rattle.sd_match.specs.Matching.{holds_dns, has_value, equals, matches, all_match}
-use Rattle.sd_match.specs.Answering.{in_scope, is_found, has_password}
+use Rattle.sd_match.specs.Answering.{in_scope, is_found}
 use Rattle.sd_stub.specs.Numbers.{base_number, value_number}
-use Rattle.sd_stub.specs.Covers.{AreEnough, picked, passes_at}
+use Rattle.sd_stub.specs.Covers.{AreEnough, present, at_slot, passes_at}
 use Rattle.sd_stub.specs.Index.{IsIndex, found_under}
 use Rattle.sd_stub.proofs.Covering.{any_enough, any_picked}
-use Rattle.sd_stub.proofs.Hashing.{meets_scope, meets_same}
+use Rattle.sd_stub.proofs.Hashing.{meets_scope}
 use Rattle.sd_stub.proofs.Indexing.{base_enough, value_enough, dn_enough}
 
 and_first : (s t : Bool) → (s && t) ≡ true → s ≡ true
@@ -28,28 +27,19 @@ and_second : (s t : Bool) → (s && t) ≡ true → t ≡ true
 and_second true t h = h
 and_second false t h = cc
 
-there : (test : DirEntry → Bool) (entries : List DirEntry) (places : List ℕ) → AreEnough test entries places → list_any (λ (p : ℕ). passes_at test (slice_get entries p)) places ≡ list_any test entries
-there test entries places h = any_picked test (λ (p : ℕ). slice_get entries p) places ∙ any_enough test entries places h
+there : (test : DirEntry → Bool) (slots : List (Option DirEntry)) (places : List ℕ) → AreEnough test slots places → list_any (λ (p : ℕ). passes_at test (at_slot slots p)) places ≡ list_any test (present slots)
+there test slots places h = any_picked test (λ (p : ℕ). at_slot slots p) places ∙ any_enough test slots places h
 
-pub base_there : (buckets : List (List ℕ)) (entries : List DirEntry) (base : Option (List (List Pair))) (places : List ℕ) → 1 < length buckets → IsIndex buckets entries → places ≡ found_under buckets (base_number base)
-    → list_any (λ (p : ℕ). passes_at (λ (e : DirEntry). both_meet ends_with (spelled e.dn) base) (slice_get entries p)) places ≡ list_any (λ (e : DirEntry). both_meet ends_with (spelled e.dn) base) entries
-base_there buckets entries base places some is at =
-    ap (λ (ps : List ℕ). list_any (λ (p : ℕ). passes_at (λ (e : DirEntry). both_meet ends_with (spelled e.dn) base) (slice_get entries p)) ps) at
-    ∙ there (λ (e : DirEntry). both_meet ends_with (spelled e.dn) base) entries (found_under buckets (base_number base)) (base_enough buckets entries (λ (e : DirEntry). both_meet ends_with (spelled e.dn) base) base some is (λ e t. t))
+pub base_there : (buckets : List (List ℕ)) (slots : List (Option DirEntry)) (base : Option (List (List Pair))) (places : List ℕ) → 1 < length buckets → IsIndex buckets slots → places ≡ found_under buckets (base_number base)
+    → list_any (λ (p : ℕ). passes_at (λ (e : DirEntry). both_meet ends_with (spelled e.dn) base) (at_slot slots p)) places ≡ list_any (λ (e : DirEntry). both_meet ends_with (spelled e.dn) base) (present slots)
+base_there buckets slots base places some is at =
+    ap (λ (ps : List ℕ). list_any (λ (p : ℕ). passes_at (λ (e : DirEntry). both_meet ends_with (spelled e.dn) base) (at_slot slots p)) ps) at
+    ∙ there (λ (e : DirEntry). both_meet ends_with (spelled e.dn) base) slots (found_under buckets (base_number base)) (base_enough buckets slots (λ (e : DirEntry). both_meet ends_with (spelled e.dn) base) base some is (λ e t. t))
 
-pub right_there : (buckets : List (List ℕ)) (entries : List DirEntry) (name : Option (List (List Pair))) (password : List ℕ) (places : List ℕ) → 1 < length buckets → IsIndex buckets entries → places ≡ found_under buckets (base_number name)
-    → list_any (λ (p : ℕ). passes_at (λ (e : DirEntry). both_meet same_dn (spelled e.dn) name && has_password password e) (slice_get entries p)) places
-    ≡ list_any (λ (e : DirEntry). both_meet same_dn (spelled e.dn) name && has_password password e) entries
-right_there buckets entries name password places some is at =
-    ap (λ (ps : List ℕ). list_any (λ (p : ℕ). passes_at (λ (e : DirEntry). both_meet same_dn (spelled e.dn) name && has_password password e) (slice_get entries p)) ps) at
-    ∙ there (λ (e : DirEntry). both_meet same_dn (spelled e.dn) name && has_password password e) entries (found_under buckets (base_number name))
-    (base_enough buckets entries (λ (e : DirEntry). both_meet same_dn (spelled e.dn) name && has_password password e) name some is
-    (λ e t. meets_same (spelled e.dn) name (and_first (both_meet same_dn (spelled e.dn) name) (has_password password e) t)))
-
-pub base_all : (buckets : List (List ℕ)) (entries : List DirEntry) (s : SearchValue) (base : Option (List (List Pair))) → 1 < length buckets → IsIndex buckets entries → base ≡ spelled s.base
-    → AreEnough (λ (e : DirEntry). is_found s e) entries (found_under buckets (base_number base))
-base_all buckets entries s base some is at =
-    base_enough buckets entries (λ (e : DirEntry). is_found s e) base some is
+pub base_all : (buckets : List (List ℕ)) (slots : List (Option DirEntry)) (s : SearchValue) (base : Option (List (List Pair))) → 1 < length buckets → IsIndex buckets slots → base ≡ spelled s.base
+    → AreEnough (λ (e : DirEntry). is_found s e) slots (found_under buckets (base_number base))
+base_all buckets slots s base some is at =
+    base_enough buckets slots (λ (e : DirEntry). is_found s e) base some is
     (λ e t.
     let under : both_meet ends_with (spelled e.dn) (spelled s.base) ≡ true = meets_scope s.scope (spelled e.dn) (spelled s.base) (and_first (both_meet (in_scope s.scope) (spelled e.dn) (spelled s.base)) (matches s.filter e.attributes) t) in
     ap (λ (o : Option (List (List Pair))). both_meet ends_with (spelled e.dn) o) at ∙ under)
@@ -70,10 +60,10 @@ pub each_of : (filters : List Filter) (i : ℕ) (f d : Filter) (s : SearchValue)
     → ((e : DirEntry) → is_found s e ≡ true → all_match (filter_values filters) e.attributes ≡ true) → (e : DirEntry) → is_found s e ≡ true → matches (filter_value f) e.attributes ≡ true
 each_of filters i f d s lt is h e t = each_matches filters i f d e.attributes lt is (h e t)
 
-pub value_all : (buckets : List (List ℕ)) (entries : List DirEntry) (s : SearchValue) (name asked : List ℕ) (number : ℕ) → 1 < length buckets → IsIndex buckets entries → number ≡ value_number name asked → number ≢ 0
+pub value_all : (buckets : List (List ℕ)) (slots : List (Option DirEntry)) (s : SearchValue) (name asked : List ℕ) (number : ℕ) → 1 < length buckets → IsIndex buckets slots → number ≡ value_number name asked → number ≢ 0
     → (holds_dns name ≡ false) ⊎ (found_under buckets 0 ≡ []) → ((e : DirEntry) → is_found s e ≡ true → has_value name (equals name asked) e.attributes ≡ true)
-    → AreEnough (λ (e : DirEntry). is_found s e) entries (found_under buckets number)
-value_all buckets entries s name asked number some is at known (inl dns) h =
-    subst (λ (n : ℕ). AreEnough (λ (e : DirEntry). is_found s e) entries (found_under buckets n)) (sym at) (value_enough buckets entries (λ (e : DirEntry). is_found s e) name asked some is (λ e. known (at ∙ e)) dns h)
-value_all buckets entries s name asked number some is at known (inr none) h =
-    subst (λ (n : ℕ). AreEnough (λ (e : DirEntry). is_found s e) entries (found_under buckets n)) (sym at) (dn_enough buckets entries (λ (e : DirEntry). is_found s e) name asked some is (λ e. known (at ∙ e)) none h)
+    → AreEnough (λ (e : DirEntry). is_found s e) slots (found_under buckets number)
+value_all buckets slots s name asked number some is at known (inl dns) h =
+    subst (λ (n : ℕ). AreEnough (λ (e : DirEntry). is_found s e) slots (found_under buckets n)) (sym at) (value_enough buckets slots (λ (e : DirEntry). is_found s e) name asked some is (λ e. known (at ∙ e)) dns h)
+value_all buckets slots s name asked number some is at known (inr none) h =
+    subst (λ (n : ℕ). AreEnough (λ (e : DirEntry). is_found s e) slots (found_under buckets n)) (sym at) (dn_enough buckets slots (λ (e : DirEntry). is_found s e) name asked some is (λ e. known (at ∙ e)) none h)

@@ -1,6 +1,5 @@
 -- Replies, one message after another.
 use Rattle.std.proofs.Common.{zero, suc, ◌+◌, ◌-◌, ◌<◌, drop, get_or, Option, Some, None}
-use Rattle.std.specs.Prelude.{slice_get}
 use Rattle.std.specs.List.{list_any}
 use Rattle.std.proofs.lemmas.List.{drop_more}
 use Rattle.sd_dn.specs.declared.Pair.{Pair}
@@ -13,7 +12,7 @@ use Rattle.sd_ldap.specs.declared.entry.DirEntry.{DirEntry}
 use Rattle.sd_ldap.specs.Values.{SearchValue, MessageValue, entry, done}
 use Rattle.sd_ldap.specs.Spelling.{message_bytes}
 use Rattle.sd_match.specs.Answering.{told, reply, sent, is_past_limit, limited, search_code, is_found, found, found_replies, is_at_or_under}
-use Rattle.sd_stub.specs.Covers.{AreEnough, picked, with_some}
+use Rattle.sd_stub.specs.Covers.{AreEnough, picked, present, at_slot, with_some}
 use Rattle.sd_stub.specs.Replying.{bytes_at, left_at, entry_reply, entries_bytes, done_bytes, alone_bytes, next_bytes, next_left, supported_bytes, search_bytes}
 
 entries_then : (id : ℕ) (s : SearchValue) (entries : List DirEntry) (last : MessageValue)
@@ -67,28 +66,28 @@ front_at : (o : Option DirEntry) (id : ℕ) (s : SearchValue) (rest : List DirEn
 front_at (Some e) id s rest left some = front_bytes (is_found s e) id s e (found rest s) left some
 front_at None id s rest left some = refl
 
-pub one_more : (id : ℕ) (s : SearchValue) (entries : List DirEntry) (ps : List ℕ) (i p left after : ℕ) (out new v : List ℕ) → drop i ps ≡ p ∷ drop (i + 1) ps → (left ≡ 0 → ⊥)
-    → new ≡ out ++ bytes_at (slice_get entries p) id s → after ≡ left_at (slice_get entries p) s left
-    → out ++ entries_bytes id s (take left (found (picked entries (drop i ps)) s)) ≡ v
-    → new ++ entries_bytes id s (take after (found (picked entries (drop (i + 1) ps)) s)) ≡ v
-one_more id s entries ps i p left after out new v at some made less so_far =
-    let o : Option DirEntry = slice_get entries p in
-    let behind : List DirEntry = picked entries (drop (i + 1) ps) in
+pub one_more : (id : ℕ) (s : SearchValue) (slots : List (Option DirEntry)) (ps : List ℕ) (i p left after : ℕ) (out new v : List ℕ) → drop i ps ≡ p ∷ drop (i + 1) ps → (left ≡ 0 → ⊥)
+    → new ≡ out ++ bytes_at (at_slot slots p) id s → after ≡ left_at (at_slot slots p) s left
+    → out ++ entries_bytes id s (take left (found (picked slots (drop i ps)) s)) ≡ v
+    → new ++ entries_bytes id s (take after (found (picked slots (drop (i + 1) ps)) s)) ≡ v
+one_more id s slots ps i p left after out new v at some made less so_far =
+    let o : Option DirEntry = at_slot slots p in
+    let behind : List DirEntry = picked slots (drop (i + 1) ps) in
     let rest : List DirEntry = found behind s in
     ap (λ (bs : List ℕ). bs ++ entries_bytes id s (take after rest)) made
     ∙ (ap (λ (n : ℕ). (out ++ bytes_at o id s) ++ entries_bytes id s (take n rest)) less
     ∙ (append_assoc out (bytes_at o id s) (entries_bytes id s (take (left_at o s left) rest))
     ∙ (ap (λ (bs : List ℕ). out ++ bs) (front_at o id s behind left some)
-    ∙ (ap (λ (xs : List ℕ). out ++ entries_bytes id s (take left (found (picked entries xs) s))) (sym at)
+    ∙ (ap (λ (xs : List ℕ). out ++ entries_bytes id s (take left (found (picked slots xs) s))) (sym at)
     ∙ so_far))))
 
 pub nothing_put : (out : List ℕ) → out ≡ out ++ []
 nothing_put out = sym (append-nil out)
 
 -- what is found where places are enough
-pub found_enough : (id : ℕ) (s : SearchValue) (entries : List DirEntry) (places : List ℕ) (v : List ℕ) → AreEnough (λ (e : DirEntry). is_found s e) entries places
-    → v ≡ flat_map message_bytes (found_replies id s (found (picked entries places) s)) → v ≡ flat_map message_bytes (found_replies id s (found entries s))
-found_enough id s entries places v enough made = made ∙ ap (λ (es : List DirEntry). flat_map message_bytes (found_replies id s es)) enough
+pub found_enough : (id : ℕ) (s : SearchValue) (slots : List (Option DirEntry)) (places : List ℕ) (v : List ℕ) → AreEnough (λ (e : DirEntry). is_found s e) slots places
+    → v ≡ flat_map message_bytes (found_replies id s (found (picked slots places) s)) → v ≡ flat_map message_bytes (found_replies id s (found (present slots) s))
+found_enough id s slots places v enough made = made ∙ ap (λ (es : List DirEntry). flat_map message_bytes (found_replies id s es)) enough
 
 -- ---- searches
 

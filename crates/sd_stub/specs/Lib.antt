@@ -1,7 +1,7 @@
 pub mod Keeping
+pub mod Covers
 pub mod Naming
 pub mod Numbers
-pub mod Covers
 pub mod Index
 pub mod Faults
 pub mod Replying

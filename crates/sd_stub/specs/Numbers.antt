@@ -1,5 +1,5 @@
 -- Numbers by which an entry is found: equal DNs and equal values have equal numbers, other ones seldom.
-use Rattle.std.specs.Prelude.{ℕ, ◌+◌, ◌-◌, ◌*◌, ◌%◌, ◌==◌, Bool, true, false, ◌++◌, if◌then◌else◌, List, [], ◌∷◌, fold, map, flat_map, Option, Some, None}
+use Rattle.std.specs.Prelude.{ℕ, ◌+◌, ◌-◌, ◌*◌, ◌%◌, Bool, false, ◌++◌, if◌then◌else◌, List, [], ◌∷◌, fold, map, flat_map, Option, Some, None}
 use Rattle.sd_dn.specs.declared.Pair.{Pair}
 use Rattle.sd_dn.specs.Texts.{spelled}
 use Rattle.sd_ldap.specs.declared.entry.Attribute.{Attribute}

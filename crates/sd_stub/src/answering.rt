@@ -5,12 +5,14 @@ ghost use Rattle.sd_ldap.specs.declared.entry.DirEntry.{DirEntry};
 ghost use Rattle.sd_ldap.specs.Values.{message_value, operation_value, search_value};
 ghost use Rattle.sd_ldap.specs.Spelling.{message_bytes};
 ghost use Rattle.sd_match.specs.Answering.{told, is_found, found, found_replies, replies_by, reply_bytes};
-ghost use Rattle.sd_stub.specs.Covers.{AreEnough, picked};
+ghost use Rattle.sd_stub.specs.Covers.{AreEnough, picked, at_slot, present};
 ghost use Rattle.sd_stub.specs.Index.{IsIndex};
+ghost use Rattle.sd_stub.specs.Naming.{AreNamed};
 ghost use Rattle.sd_stub.specs.Replying.{bytes_at, left_at, entry_reply, entries_bytes, done_bytes, alone_bytes, bind_bytes, next_bytes, next_left, supported_bytes, search_bytes};
 
 use crate::binding::bind_code;
 use crate::index::Index;
+use crate::keeping::{Names, place_of};
 use crate::narrowing::{has_base_in, narrowest};
 use crate::placed::Placed;
 use crate::searching::{count_found, is_found};
@@ -93,18 +95,18 @@ fn put_at(
     out: &mut Vec<u8>,
     id: u32,
     request: &SearchRequest,
-    entries: &[Placed],
+    slots: &[Option<Placed>],
     place: usize,
     base: &Option<Dn>,
     left: usize,
 ) -> Result<usize, Memory>
     requires base { base.now ≡ spelled request.now.base }
     requires left { 0 < left }
-    ensures { IfOk result (λ after. (out.new.items ≡ out.old.items ++ bytes_at (slice_get entries.now place) id (search_value request.now)) × (after ≡ left_at (slice_get entries.now place) (search_value request.now) left)) }
+    ensures { IfOk result (λ after. (out.new.items ≡ out.old.items ++ bytes_at (at_slot slots.now place) id (search_value request.now)) × (after ≡ left_at (at_slot slots.now place) (search_value request.now) left)) }
 {
-    match entries.get(place) {
-        Some(placed) => put_next(alloc, out, id, request, placed, base, left),
-        None => Ok(left),
+    match slots.get(place) {
+        Some(Some(placed)) => put_next(alloc, out, id, request, placed, base, left),
+        _ => Ok(left),
     }
 }
 
@@ -114,20 +116,20 @@ fn put_found(
     out: &mut Vec<u8>,
     id: u32,
     request: &SearchRequest,
-    entries: &[Placed],
+    slots: &[Option<Placed>],
     places: &[usize],
     base: &Option<Dn>,
     limit: usize,
 ) -> Result<(), Memory>
     requires { base.now ≡ spelled request.now.base }
-    ensures { OnOk result (out.new.items ≡ out.old.items ++ entries_bytes id (search_value request.now) (take limit (found (picked entries.now places.now) (search_value request.now)))) }
+    ensures { OnOk result (out.new.items ≡ out.old.items ++ entries_bytes id (search_value request.now) (take limit (found (picked slots.now places.now) (search_value request.now)))) }
 {
     let mut left = limit;
     for place in places {
         if left == 0 {
             return Ok(());
         }
-        let after = put_at(alloc, out, id, request, entries, *place, base, left)?;
+        let after = put_at(alloc, out, id, request, slots, *place, base, left)?;
         left = after;
     }
     Ok(())
@@ -149,20 +151,41 @@ fn found_bytes(
     alloc: Global,
     id: u32,
     request: &SearchRequest,
-    entries: &[Placed],
+    slots: &[Option<Placed>],
     places: &[usize],
     base: &Option<Dn>,
 ) -> Result<Vec<u8>, Memory>
     requires base { base.now ≡ spelled request.now.base }
-    requires enough { AreEnough (λ (e : DirEntry). is_found (search_value request.now) e) entries.now places.now }
-    ensures { IfOk result (λ v. v.items ≡ flat_map message_bytes (found_replies id (search_value request.now) (found entries.now (search_value request.now)))) }
+    requires enough { AreEnough (λ (e : DirEntry). is_found (search_value request.now) e) slots.now places.now }
+    ensures { IfOk result (λ v. v.items ≡ flat_map message_bytes (found_replies id (search_value request.now) (found (present slots.now) (search_value request.now)))) }
 {
-    let count = count_found(entries, places, request, base);
+    let count = count_found(slots, places, request, base);
     let (limit, code) = limited(request.size, count);
     let mut out = Vec::new(alloc);
-    put_found(alloc, &mut out, id, request, entries, places, base, limit)?;
+    put_found(alloc, &mut out, id, request, slots, places, base, limit)?;
     put_done(alloc, &mut out, id, code)?;
     Ok(out)
+}
+
+/// The replies to a search of the base alone.
+#[tactic(auto, using(crate::proofs::Slots::alone_enough, crate::proofs::Slots::nowhere_enough))]
+fn base_bytes(
+    alloc: Global,
+    id: u32,
+    request: &SearchRequest,
+    slots: &[Option<Placed>],
+    names: &Names,
+    base: &Option<Dn>,
+) -> Result<Vec<u8>, Memory>
+    requires base { base.now ≡ spelled request.now.base }
+    requires scope { request.now.scope ≡ 0 }
+    requires named { AreNamed names.now.entries slots.now }
+    ensures { IfOk result (λ v. v.items ≡ flat_map message_bytes (found_replies id (search_value request.now) (found (present slots.now) (search_value request.now)))) }
+{
+    match place_of(alloc, slots, names, base)? {
+        Some(place) => found_bytes(alloc, id, request, slots, &[place], base),
+        None => found_bytes(alloc, id, request, slots, &[], base),
+    }
 }
 
 #[tactic(auto, using(crate::proofs::Replies::alone))]
@@ -178,57 +201,65 @@ fn done_alone(alloc: Global, id: u32, code: u32) -> Result<Vec<u8>, Memory>
 #[tactic(auto, using(crate::proofs::Replies::no_base, crate::proofs::Replies::with_base))]
 fn supported(
     alloc: Global,
-    entries: &[Placed],
+    slots: &[Option<Placed>],
+    names: &Names,
     index: &Index,
     id: u32,
     request: &SearchRequest,
 ) -> Result<Vec<u8>, Memory>
-    requires { IsIndex index.now entries.now }
-    ensures { IfOk result (λ v. v.items ≡ supported_bytes entries.now id (search_value request.now)) }
+    requires index { IsIndex index.now slots.now }
+    requires named { AreNamed names.now.entries slots.now }
+    ensures { IfOk result (λ v. v.items ≡ supported_bytes (present slots.now) id (search_value request.now)) }
 {
     let base = spelled(alloc, request.base.bytes())?;
-    if !has_base_in(entries, index, &base) {
+    if !has_base_in(slots, index, &base) {
         let bytes = done_alone(alloc, id, 32)?;
         return Ok(bytes);
     }
-    let number = narrowest(alloc, entries, index, request, &base)?;
+    if request.scope == 0 {
+        let bytes = base_bytes(alloc, id, request, slots, names, &base)?;
+        return Ok(bytes);
+    }
+    let number = narrowest(alloc, slots, index, request, &base)?;
     let places = index.places(number);
-    let bytes = found_bytes(alloc, id, request, entries, places, &base)?;
+    let bytes = found_bytes(alloc, id, request, slots, places, &base)?;
     Ok(bytes)
 }
 
 #[tactic(auto, using(crate::proofs::Replies::no_support, crate::proofs::Replies::with_support))]
 fn search(
     alloc: Global,
-    entries: &[Placed],
+    slots: &[Option<Placed>],
+    names: &Names,
     index: &Index,
     id: u32,
     request: &SearchRequest,
 ) -> Result<Vec<u8>, Memory>
-    requires { IsIndex index.now entries.now }
-    ensures { IfOk result (λ v. v.items ≡ search_bytes entries.now id (search_value request.now)) }
+    requires index { IsIndex index.now slots.now }
+    requires named { AreNamed names.now.entries slots.now }
+    ensures { IfOk result (λ v. v.items ≡ search_bytes (present slots.now) id (search_value request.now)) }
 {
     if has_unsupported(&request.filter) {
         let bytes = done_alone(alloc, id, 53)?;
         return Ok(bytes);
     }
-    let bytes = supported(alloc, entries, index, id, request)?;
+    let bytes = supported(alloc, slots, names, index, id, request)?;
     Ok(bytes)
 }
 
 #[tactic(auto, using(crate::proofs::Replies::alone))]
 fn bind(
     alloc: Global,
-    entries: &[Placed],
-    index: &Index,
+    slots: &[Option<Placed>],
+    names: &Names,
     id: u32,
     name: &Text,
     password: &Text,
 ) -> Result<Vec<u8>, Memory>
-    requires { IsIndex index.now entries.now }
-    ensures { IfOk result (λ v. v.items ≡ bind_bytes entries.now id name.now password.now) }
+    requires { AreNamed names.now.entries slots.now }
+    ensures { IfOk result (λ v. v.items ≡ bind_bytes (present slots.now) id name.now password.now) }
 {
-    let code = bind_code(alloc, entries, index, name, password)?;
+    let code = bind_code(alloc, slots, names, name, password)?;
     let message = Message {
         id,
         operation: Operation::BindResponse(told(alloc, code)?),
@@ -240,19 +271,21 @@ fn bind(
 /// The bytes of the replies to a message.
 pub fn replies(
     alloc: Global,
-    entries: &[Placed],
+    slots: &[Option<Placed>],
+    names: &Names,
     index: &Index,
     message: &Message,
 ) -> Result<Vec<u8>, Memory>
-    requires { IsIndex index.now entries.now }
-    ensures { IfOk result (λ v. v.items ≡ reply_bytes entries.now (message_value message.now)) }
+    requires index { IsIndex index.now slots.now }
+    requires named { AreNamed names.now.entries slots.now }
+    ensures { IfOk result (λ v. v.items ≡ reply_bytes (present slots.now) (message_value message.now)) }
 {
     match &message.operation {
         Operation::BindRequest(_, name, password) => bind(
-            alloc, entries, index, message.id, name, password,
+            alloc, slots, names, message.id, name, password,
         ),
         Operation::Unbind => Ok(Vec::new(alloc)),
-        Operation::Search(request) => search(alloc, entries, index, message.id, request),
+        Operation::Search(request) => search(alloc, slots, names, index, message.id, request),
         Operation::BindResponse(_) => done_alone(alloc, message.id, 53),
         Operation::Entry(_) => done_alone(alloc, message.id, 53),
         Operation::Done(_) => done_alone(alloc, message.id, 53),

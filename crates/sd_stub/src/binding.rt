@@ -6,11 +6,10 @@ ghost use Rattle.sd_dn.specs.Comparing.{same_dn};
 ghost use Rattle.sd_dn.specs.Texts.{spelled, both_meet, same_dn_text};
 ghost use Rattle.sd_match.specs.Answering.{same_bytes, is_password, has_password, is_right, bind_code};
 ghost use Rattle.sd_ldap.specs.declared.entry.DirEntry.{DirEntry};
-ghost use Rattle.sd_stub.specs.Covers.{passes_at};
-ghost use Rattle.sd_stub.specs.Index.{IsIndex};
+ghost use Rattle.sd_stub.specs.Covers.{at_slot, passes_at, present};
+ghost use Rattle.sd_stub.specs.Naming.{AreNamed};
 
-use crate::index::Index;
-use crate::numbers::base_number;
+use crate::keeping::{Names, place_of};
 use crate::placed::Placed;
 use sd_base::{Memory, Text};
 use sd_dn::compare::same_text;
@@ -53,47 +52,49 @@ fn accepts(placed: &Placed, name: &Option<Dn>, password: &[u8]) -> bool
     placed.is_named(name) && has_password(placed.entry(), password)
 }
 
-fn accepts_at(entries: &[Placed], place: usize, name: &Option<Dn>, password: &[u8]) -> bool
-    ensures { result ≡ passes_at (λ (e : DirEntry). both_meet same_dn (spelled e.dn) name.now && has_password password.now e) (slice_get entries.now place) }
+fn accepts_at(slots: &[Option<Placed>], place: usize, name: &Option<Dn>, password: &[u8]) -> bool
+    ensures { result ≡ passes_at (λ (e : DirEntry). both_meet same_dn (spelled e.dn) name.now && has_password password.now e) (at_slot slots.now place) }
 {
-    match entries.get(place) {
-        Some(placed) => accepts(placed, name, password),
-        None => false,
+    match slots.get(place) {
+        Some(Some(placed)) => accepts(placed, name, password),
+        _ => false,
     }
 }
 
-fn one_accepts(entries: &[Placed], places: &[usize], name: &Option<Dn>, password: &[u8]) -> bool
-    ensures { result ≡ list_any (λ (p : ℕ). passes_at (λ (e : DirEntry). both_meet same_dn (spelled e.dn) name.now && has_password password.now e) (slice_get entries.now p)) places.now }
+/// Whether a password is right for the entry of a DN.
+#[tactic(auto, using(crate::proofs::Slots::right_alone, crate::proofs::Slots::right_nowhere))]
+fn is_right(
+    alloc: Global,
+    slots: &[Option<Placed>],
+    names: &Names,
+    name: &Option<Dn>,
+    password: &[u8],
+) -> Result<bool, Memory>
+    requires { AreNamed names.now.entries slots.now }
+    ensures { IfOk result (λ is. is ≡ list_any (λ (e : DirEntry). both_meet same_dn (spelled e.dn) name.now && has_password password.now e) (present slots.now)) }
 {
-    places
-        .iter()
-        .any(|place| accepts_at(entries, *place, name, password))
-}
-
-fn is_right(entries: &[Placed], index: &Index, name: &Option<Dn>, password: &[u8]) -> bool
-    requires { IsIndex index.now entries.now }
-    ensures { result ≡ list_any (λ (e : DirEntry). both_meet same_dn (spelled e.dn) name.now && has_password password.now e) entries.now }
-{
-    let places = index.places(base_number(name));
-    one_accepts(entries, places, name, password)
+    match place_of(alloc, slots, names, name)? {
+        Some(place) => Ok(accepts_at(slots, place, name, password)),
+        None => Ok(false),
+    }
 }
 
 /// The result code of a simple bind.
 pub fn bind_code(
     alloc: Global,
-    entries: &[Placed],
-    index: &Index,
+    slots: &[Option<Placed>],
+    names: &Names,
     name: &Text,
     password: &Text,
 ) -> Result<u32, Memory>
-    requires { IsIndex index.now entries.now }
-    ensures { IfOk result (λ code. code ≡ bind_code entries.now name.now password.now) }
+    requires { AreNamed names.now.entries slots.now }
+    ensures { IfOk result (λ code. code ≡ bind_code (present slots.now) name.now password.now) }
 {
     if password.bytes().is_empty() {
         return Ok(if name.bytes().is_empty() { 0 } else { 53 });
     }
     let dn = spelled(alloc, name.bytes())?;
-    if is_right(entries, index, &dn, password.bytes()) {
+    if is_right(alloc, slots, names, &dn, password.bytes())? {
         return Ok(0);
     }
     Ok(49)

@@ -1,7 +1,7 @@
-//! An index of entries by numbers.
-ghost use Rattle.std.specs.Prelude.{◌≡◌, ℕ, ◌+◌, ◌-◌, ◌<◌, ◌≤◌, ◌^◌, List, [], length, replicate, IfOk, OnOk, OnErr};
+//! An index of the entries in slots by numbers.
+ghost use Rattle.std.specs.Prelude.{◌≡◌, ℕ, ◌+◌, ◌-◌, ◌<◌, ◌≤◌, ◌^◌, List, [], ◌∷◌, ◌++◌, length, replicate, slice_set, Option, Some, IfOk, OnOk, OnErr};
 ghost use Rattle.sd_ldap.specs.declared.entry.DirEntry.{DirEntry};
-ghost use Rattle.sd_stub.specs.Covers.{last_is, with_last};
+ghost use Rattle.sd_stub.specs.Covers.{with_place};
 ghost use Rattle.sd_stub.specs.Index.{IsIndex, bucket_of, count_of, places_of, found_under, with_number, with_numbers};
 
 use crate::placed::Placed;
@@ -15,7 +15,7 @@ const FEWEST: usize = 1024;
 /// The most buckets.
 const MOST: usize = 4_194_304;
 
-/// Places of a list, in their order.
+/// Places of a list, which rise.
 #[derive(Drop)]
 pub struct Places {
     places: Vec<usize>,
@@ -23,10 +23,13 @@ pub struct Places {
 
 impl Model for Places {
     ghost use Rattle.std.specs.Prelude.{List, ℕ};
+    ghost use Rattle.sd_stub.specs.Covers.{RisesFrom};
 
     ghost Value = { List ℕ };
 
     ghost view = { λ p. p.places.items };
+
+    ghost invariant = { λ p. RisesFrom 0 p.places.items };
 }
 
 impl Places {
@@ -44,25 +47,16 @@ impl Places {
         self.places.as_slice()
     }
 
-    #[tactic(auto, using(crate::proofs::Covering::last_none))]
-    fn ends_with(&self, place: usize) -> bool
-        ensures { result ≡ last_is self.now place }
-    {
-        let count = self.places.len();
-        if count == 0 {
-            return false;
-        }
-        self.places[count - 1] == place
-    }
-
-    /// Puts a place behind all others, unless it is the last one.
+    /// Puts a place among the others, unless it is there.
     fn put(&mut self, place: usize) -> Result<(), Memory>
-        ensures { OnOk result (self.new ≡ with_last self.old place) }
+        ensures ok { OnOk result (self.new ≡ with_place self.old place) }
+        ensures err { OnErr result (self.new ≡ self.old) }
     {
-        if self.ends_with(place) {
-            return Ok(());
-        }
-        self.places.push(place)?;
+        let at = match self.places.as_slice().binary_search(&place) {
+            Ok(_) => return Ok(()),
+            Err(at) => at,
+        };
+        self.places.insert(at, place)?;
         Ok(())
     }
 }
@@ -134,7 +128,8 @@ impl Index {
 
     /// Puts a place under a number.
     fn put(&mut self, place: usize, number: u32) -> Result<(), Memory>
-        ensures { OnOk result (self.new ≡ with_number self.old place number) }
+        ensures ok { OnOk result (self.new ≡ with_number self.old place number) }
+        ensures err { OnErr result (self.new ≡ self.old) }
     {
         let bucket = self.bucket_of(number);
         self.buckets[bucket].put(place)
@@ -142,12 +137,37 @@ impl Index {
 
     /// Puts a place under each of some numbers.
     fn put_all(&mut self, place: usize, numbers: &[u32]) -> Result<(), Memory>
-        ensures { OnOk result (self.new ≡ with_numbers self.old place numbers.now) }
+        ensures ok { OnOk result (self.new ≡ with_numbers self.old place numbers.now) }
+        ensures still { (slots : List (Option DirEntry)) → place < length slots → IsIndex self.old slots → IsIndex self.new slots }
     {
         for number in numbers {
             self.put(place, *number)?;
         }
         Ok(())
+    }
+
+    /// Puts a place under the numbers of an entry.
+    pub fn put_entry(&mut self, alloc: Global, place: usize, placed: &Placed) -> Result<(), Memory>
+        ensures still { (slots : List (Option DirEntry)) → place < length slots → IsIndex self.old slots → IsIndex self.new slots }
+        ensures ok { OnOk result ((slots : List (Option DirEntry)) → place < length slots → IsIndex self.old slots → IsIndex self.new (slice_set slots place (Some placed.now))) }
+    {
+        self.check();
+        let numbers = placed.numbers(alloc)?;
+        self.put_all(place, &numbers)?;
+        Ok(())
+    }
+
+    /// Puts the place of what comes behind all that was put.
+    fn put_next(&mut self, alloc: Global, place: usize, slot: &Option<Placed>) -> Result<(), Memory>
+        ensures { OnOk result ((slots : List (Option DirEntry)) → place ≡ length slots → IsIndex self.old slots → IsIndex self.new (slots ++ slot.now ∷ [])) }
+    {
+        match slot {
+            Some(placed) => {
+                self.put_entry(alloc, place, placed)?;
+                Ok(())
+            }
+            None => Ok(()),
+        }
     }
 }
 
@@ -158,15 +178,14 @@ fn buckets_for(entries: usize) -> usize
     entries.saturating_mul(4).max(FEWEST).min(MOST)
 }
 
-/// The index of some entries.
+/// The index of some slots. It takes time in proportion to what they hold.
 #[tactic(auto, using(crate::proofs::Indexing::index_none))]
-pub fn index_of(alloc: Global, entries: &[Placed]) -> Result<Index, Memory>
-    ensures { IfOk result (λ index. IsIndex index entries.now) }
+pub fn index_of(alloc: Global, slots: &[Option<Placed>]) -> Result<Index, Memory>
+    ensures { IfOk result (λ index. IsIndex index slots.now) }
 {
-    let mut index = Index::new(alloc, buckets_for(entries.len()))?;
-    for place in 0..entries.len() {
-        let numbers = entries[place].numbers(alloc)?;
-        index.put_all(place, &numbers)?;
+    let mut index = Index::new(alloc, buckets_for(slots.len()))?;
+    for place in 0..slots.len() {
+        index.put_next(alloc, place, &slots[place])?;
     }
     Ok(index)
 }

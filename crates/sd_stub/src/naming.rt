@@ -1,7 +1,7 @@
 //! By what an entry is found among others.
-ghost use Rattle.std.specs.Prelude.{◌≡◌, ℕ, List, map, IfOk};
+ghost use Rattle.std.specs.Prelude.{◌≡◌, List, map, IfOk};
 ghost use Rattle.sd_dn.specs.declared.Pair.{Pair};
-ghost use Rattle.sd_stub.specs.Naming.{lower, lower_pair, lower_dn, parts_of, IsNameOf};
+ghost use Rattle.sd_stub.specs.Naming.{lower, lower_pair, lower_dn, parts};
 
 use sd_base::{Memory, Text};
 use sd_dn::{Dn, Pair};
@@ -20,13 +20,10 @@ pub struct Level {
     pub parts: Vec<Part>,
 }
 
-/// The name of an entry: two entries have equal names where their texts spell equal DNs.
+/// The name of an entry, its DN in lower case: two entries have equal names where their texts spell equal DNs.
 #[derive(Drop, Debug, PartialEq, Eq, Hash)]
-pub enum Name {
-    /// Its DN, in lower case.
-    Known(Vec<Level>),
-    /// A number of its own, where its text spells no DN.
-    Unknown(u64),
+pub struct Name {
+    pub levels: Vec<Level>,
 }
 
 fn lower(alloc: Global, text: &Text) -> Result<Text, Memory>
@@ -58,22 +55,13 @@ fn level_of(alloc: Global, rdn: &[Pair]) -> Result<Level, Memory>
     Ok(Level { parts })
 }
 
-/// The name of a DN, or a name of a number where there is none.
-pub fn name_of(alloc: Global, dn: &Option<Dn>, number: u64) -> Result<Name, Memory>
-    ensures { IfOk result (λ name. IsNameOf name number dn.now) }
-{
-    match dn {
-        Some(dn) => Ok(Name::Known(levels_of(alloc, dn)?)),
-        None => Ok(Name::Unknown(number)),
-    }
-}
-
-fn levels_of(alloc: Global, dn: &Dn) -> Result<Vec<Level>, Memory>
-    ensures { IfOk result (λ levels. parts_of levels.items ≡ lower_dn dn.now) }
+/// The name of a DN.
+pub fn name_of(alloc: Global, dn: &Dn) -> Result<Name, Memory>
+    ensures { IfOk result (λ name. parts name ≡ lower_dn dn.now) }
 {
     let mut levels = Vec::new(alloc);
     for rdn in dn.items() {
         levels.push(level_of(alloc, rdn.items())?)?;
     }
-    Ok(levels)
+    Ok(Name { levels })
 }

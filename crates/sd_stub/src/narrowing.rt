@@ -8,7 +8,7 @@ ghost use Rattle.sd_ldap.specs.Filters.{filter_value, filter_values};
 ghost use Rattle.sd_ldap.specs.Values.{search_value};
 ghost use Rattle.sd_match.specs.Matching.{holds_dns, has_value, equals, matches, all_match};
 ghost use Rattle.sd_match.specs.Answering.{is_found};
-ghost use Rattle.sd_stub.specs.Covers.{AreEnough};
+ghost use Rattle.sd_stub.specs.Covers.{AreEnough, present};
 ghost use Rattle.sd_stub.specs.Index.{IsIndex, found_under};
 
 use crate::index::Index;
@@ -24,12 +24,12 @@ use std::alloc::Global;
 const FEW: usize = 8;
 
 /// Whether an entry is at or under the base.
-pub fn has_base_in(entries: &[Placed], index: &Index, base: &Option<Dn>) -> bool
-    requires { IsIndex index.now entries.now }
-    ensures { result ≡ list_any (λ (e : DirEntry). both_meet ends_with (spelled e.dn) base.now) entries.now }
+pub fn has_base_in(slots: &[Option<Placed>], index: &Index, base: &Option<Dn>) -> bool
+    requires { IsIndex index.now slots.now }
+    ensures { result ≡ list_any (λ (e : DirEntry). both_meet ends_with (spelled e.dn) base.now) (present slots.now) }
 {
     let places = index.places(base_number(base));
-    has_base(entries, places, base)
+    has_base(slots, places, base)
 }
 
 /// Whether all entries that have a value of an attribute are found under its number.
@@ -46,19 +46,19 @@ fn is_sure(index: &Index, name: &Text) -> bool
 /// that all that it finds have.
 fn narrowed(
     alloc: Global,
-    entries: &[Placed],
+    slots: &[Option<Placed>],
     index: &Index,
     request: &SearchRequest,
     name: &Text,
     value: &Text,
     best: u32,
 ) -> Result<u32, Memory>
-    requires index { IsIndex index.now entries.now }
-    requires best { AreEnough (λ (e : DirEntry). is_found (search_value request.now) e) entries.now (found_under index.now best) }
+    requires index { IsIndex index.now slots.now }
+    requires best { AreEnough (λ (e : DirEntry). is_found (search_value request.now) e) slots.now (found_under index.now best) }
     requires implied { (e : DirEntry) → is_found (search_value request.now) e ≡ true → has_value name.now (equals name.now value.now) e.attributes ≡ true }
-    ensures { IfOk result (λ number. AreEnough (λ (e : DirEntry). is_found (search_value request.now) e) entries.now (found_under index.now number)) }
+    ensures { IfOk result (λ number. AreEnough (λ (e : DirEntry). is_found (search_value request.now) e) slots.now (found_under index.now number)) }
 {
-    if entries.len() <= FEW {
+    if slots.len() <= FEW {
         return Ok(best);
     }
     let number = value_number(alloc, name.bytes(), value.bytes())?;
@@ -77,19 +77,19 @@ fn narrowed(
 /// The same by a filter that all that a search finds passes.
 fn narrowed_by(
     alloc: Global,
-    entries: &[Placed],
+    slots: &[Option<Placed>],
     index: &Index,
     request: &SearchRequest,
     filter: &Filter,
     best: u32,
 ) -> Result<u32, Memory>
-    requires index { IsIndex index.now entries.now }
-    requires best { AreEnough (λ (e : DirEntry). is_found (search_value request.now) e) entries.now (found_under index.now best) }
+    requires index { IsIndex index.now slots.now }
+    requires best { AreEnough (λ (e : DirEntry). is_found (search_value request.now) e) slots.now (found_under index.now best) }
     requires implied { (e : DirEntry) → is_found (search_value request.now) e ≡ true → matches (filter_value filter.now) e.attributes ≡ true }
-    ensures { IfOk result (λ number. AreEnough (λ (e : DirEntry). is_found (search_value request.now) e) entries.now (found_under index.now number)) }
+    ensures { IfOk result (λ number. AreEnough (λ (e : DirEntry). is_found (search_value request.now) e) slots.now (found_under index.now number)) }
 {
     match filter {
-        Filter::Equal(name, value) => narrowed(alloc, entries, index, request, name, value, best),
+        Filter::Equal(name, value) => narrowed(alloc, slots, index, request, name, value, best),
         _ => Ok(best),
     }
 }
@@ -97,20 +97,20 @@ fn narrowed_by(
 /// The same by filters that all that a search finds passes.
 fn narrowed_by_all(
     alloc: Global,
-    entries: &[Placed],
+    slots: &[Option<Placed>],
     index: &Index,
     request: &SearchRequest,
     filters: &Vec<Filter>,
     best: u32,
 ) -> Result<u32, Memory>
-    requires index { IsIndex index.now entries.now }
-    requires best { AreEnough (λ (e : DirEntry). is_found (search_value request.now) e) entries.now (found_under index.now best) }
+    requires index { IsIndex index.now slots.now }
+    requires best { AreEnough (λ (e : DirEntry). is_found (search_value request.now) e) slots.now (found_under index.now best) }
     requires implied { (e : DirEntry) → is_found (search_value request.now) e ≡ true → all_match (filter_values filters.now.items) e.attributes ≡ true }
-    ensures { IfOk result (λ number. AreEnough (λ (e : DirEntry). is_found (search_value request.now) e) entries.now (found_under index.now number)) }
+    ensures { IfOk result (λ number. AreEnough (λ (e : DirEntry). is_found (search_value request.now) e) slots.now (found_under index.now number)) }
 {
     let mut number = best;
     for filter in filters {
-        let next = narrowed_by(alloc, entries, index, request, filter, number)?;
+        let next = narrowed_by(alloc, slots, index, request, filter, number)?;
         number = next;
     }
     Ok(number)
@@ -119,32 +119,32 @@ fn narrowed_by_all(
 /// A number under which all is that a search finds: that of the base, or of a value that it asks for.
 pub fn narrowest(
     alloc: Global,
-    entries: &[Placed],
+    slots: &[Option<Placed>],
     index: &Index,
     request: &SearchRequest,
     base: &Option<Dn>,
 ) -> Result<u32, Memory>
-    requires index { IsIndex index.now entries.now }
+    requires index { IsIndex index.now slots.now }
     requires base { base.now ≡ spelled request.now.base }
-    ensures { IfOk result (λ number. AreEnough (λ (e : DirEntry). is_found (search_value request.now) e) entries.now (found_under index.now number)) }
+    ensures { IfOk result (λ number. AreEnough (λ (e : DirEntry). is_found (search_value request.now) e) slots.now (found_under index.now number)) }
 {
-    let number = number_of_base(entries, index, request, base);
+    let number = number_of_base(slots, index, request, base);
     match &request.filter {
-        Filter::And(filters) => narrowed_by_all(alloc, entries, index, request, filters, number),
-        _ => narrowed_by(alloc, entries, index, request, &request.filter, number),
+        Filter::And(filters) => narrowed_by_all(alloc, slots, index, request, filters, number),
+        _ => narrowed_by(alloc, slots, index, request, &request.filter, number),
     }
 }
 
 /// The number of the base of a search.
 fn number_of_base(
-    entries: &[Placed],
+    slots: &[Option<Placed>],
     index: &Index,
     request: &SearchRequest,
     base: &Option<Dn>,
 ) -> u32
-    requires index { IsIndex index.now entries.now }
+    requires index { IsIndex index.now slots.now }
     requires base { base.now ≡ spelled request.now.base }
-    ensures { AreEnough (λ (e : DirEntry). is_found (search_value request.now) e) entries.now (found_under index.now result) }
+    ensures { AreEnough (λ (e : DirEntry). is_found (search_value request.now) e) slots.now (found_under index.now result) }
 {
     index.check();
     base_number(base)

@@ -8,7 +8,7 @@ ghost use Rattle.sd_stub.specs.Numbers as numbers;
 
 use crate::naming::{Name, name_of};
 use crate::numbers::entry_numbers;
-use sd_base::Memory;
+use sd_base::{Items, Memory};
 use sd_dn::{Dn, dn_equal, is_at_or_under, spelled};
 use sd_ldap::DirEntry;
 use std::alloc::Global;
@@ -20,6 +20,9 @@ pub struct Placed {
     entry: DirEntry,
     dn: Option<Dn>,
 }
+
+/// The entries of a directory by their places, and the places of those that were taken out.
+pub type Slots = Items<Option<Placed>>;
 
 impl Model for Placed {
     ghost use Rattle.std.specs.Prelude.{◌≡◌};
@@ -47,11 +50,14 @@ impl Placed {
         &self.entry
     }
 
-    /// Its name among others; the number is its own where its text spells no DN.
-    pub fn name(&self, alloc: Global, number: u64) -> Result<Name, Memory>
-        ensures { IfOk result (λ name. IsNameOf name number (spelled self.now.dn)) }
+    /// Its name among others, where its text spells a DN.
+    pub fn name(&self, alloc: Global) -> Result<Option<Name>, Memory>
+        ensures { IfOk result (λ name. IsNameOf name (spelled self.now.dn)) }
     {
-        name_of(alloc, &self.dn, number)
+        match &self.dn {
+            Some(dn) => Ok(Some(name_of(alloc, dn)?)),
+            None => Ok(None),
+        }
     }
 
     /// The numbers under which it is found.

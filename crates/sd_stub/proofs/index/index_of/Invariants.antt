@@ -3,4 +3,4 @@ use Rattle.sd_stub.specs.Index.{IsIndex}
 use Rattle.sd_stub.proofs.index.index_of.Given as goal
 
 abbrev pub invariant-loop-place : goal.invariant-loop-place
-invariant-loop-place l = IsIndex l.index (take l.place l.entries)
+invariant-loop-place l = IsIndex l.index (take l.place l.slots)

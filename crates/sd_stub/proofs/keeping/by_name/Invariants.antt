@@ -1,11 +1,12 @@
-use Rattle.std.proofs.Common.{◌≡◌, length}
+use Rattle.std.proofs.Common.{◌≡◌}
+use Rattle.sd_stub.specs.Covers.{present}
 use Rattle.sd_stub.specs.Keeping.{kept}
-use Rattle.sd_stub.specs.Naming.{entries_of, AreNamed}
+use Rattle.sd_stub.specs.Naming.{AreNamed}
 use Rattle.sd_stub.proofs.keeping.by_name.Given as goal
 
 -- those so far are kept, each under its name
 abbrev pub invariant-loop-entry : goal.invariant-loop-entry
 invariant-loop-entry l = record {
-  so_far : entries_of l.named.entries ≡ kept l.yielded;
-  named : AreNamed l.named.entries (length l.named.entries);
+  so_far : present l.slots ≡ kept l.yielded;
+  named : AreNamed l.names.entries l.slots;
 }

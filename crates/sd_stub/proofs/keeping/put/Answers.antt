@@ -1,8 +1,12 @@
-use Rattle.sd_stub.proofs.Names.{named_put, named_next}
+use Rattle.std.proofs.Common.{◌∙◌, ap, List}
+use Rattle.sd_ldap.specs.declared.entry.DirEntry.{DirEntry}
+use Rattle.sd_stub.specs.Covers.{present}
+use Rattle.sd_stub.specs.Keeping.{put}
+use Rattle.sd_stub.proofs.Slots.{grown_present}
 use Rattle.sd_stub.proofs.keeping.put.Goals as goal
 
 pub returns-clause-put : goal.returns-clause-put
-returns-clause-put c = named_put c.args.named.now.entries c.insert.new.self.entries c.len.result c.in_ok-name.name c.args.entry c.in_ok-placed.placed c.in_ok-placed.ensures c.len.ensures.len c.in_ok-name.ensures c.requires c.in_ok-insert.ensures.entries
-
-pub returns-clause-named : goal.returns-clause-named
-returns-clause-named c = named_next c.args.named.now.entries c.insert.new.self.entries c.len.result c.in_ok-name.name c.args.entry c.in_ok-placed.placed c.in_ok-placed.ensures c.len.ensures.len c.in_ok-name.ensures c.requires c.in_ok-insert.ensures.entries
+returns-clause-put c =
+    c.fill.ensures.put
+    ∙ ap (λ (es : List DirEntry). put es c.in_ok-placed.placed) (grown_present c.args.slots.now c.keep_place.new.slots c.in_ok-place.ensures.grown)
+    ∙ ap (λ (e : DirEntry). put (present c.args.slots.now) e) c.in_ok-placed.ensures

@@ -9,5 +9,5 @@ returns c =
     let sure : c.is_sure.result ≡ true = search rules in
     let at : c.in_ok-number.number ≡ value_number c.args.name.now c.args.value.now =
     c.in_ok-number.ensures ∙ ap (λ (n : List ℕ). value_number n c.bytes-2.result.now) c.bytes.ensures ∙ ap (λ (v : List ℕ). value_number c.args.name.now v) c.bytes-2.ensures in
-    value_all c.args.index.now c.args.entries.now (search_value c.args.request.now) c.args.name.now c.args.value.now c.in_ok-number.number c.places.ensures.some c.requires.index at c.if-number-eq0.false
+    value_all c.args.index.now c.args.slots.now (search_value c.args.request.now) c.args.name.now c.args.value.now c.in_ok-number.number c.places.ensures.some c.requires.index at c.if-number-eq0.false
     (c.is_sure.ensures sure) c.requires.implied

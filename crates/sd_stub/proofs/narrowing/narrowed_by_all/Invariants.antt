@@ -6,4 +6,4 @@ use Rattle.sd_stub.specs.Index.{found_under}
 use Rattle.sd_stub.proofs.narrowing.narrowed_by_all.Given as goal
 
 abbrev pub invariant-loop-filter : goal.invariant-loop-filter
-invariant-loop-filter l = AreEnough (λ (e : DirEntry). is_found (search_value l.request) e) l.entries (found_under l.index l.number)
+invariant-loop-filter l = AreEnough (λ (e : DirEntry). is_found (search_value l.request) e) l.slots (found_under l.index l.number)

@@ -9,5 +9,5 @@ use Rattle.sd_stub.proofs.narrowing.number_of_base.Goals as goal
 
 pub returns : goal.returns
 returns c =
-    subst (λ (n : ℕ). AreEnough (λ (e : DirEntry). is_found (search_value c.args.request.now) e) c.args.entries.now (found_under c.args.index.now n)) (sym c.base_number.ensures)
-    (base_all c.args.index.now c.args.entries.now (search_value c.args.request.now) c.args.base.now c.check.ensures c.requires.index c.requires.base)
+    subst (λ (n : ℕ). AreEnough (λ (e : DirEntry). is_found (search_value c.args.request.now) e) c.args.slots.now (found_under c.args.index.now n)) (sym c.base_number.ensures)
+    (base_all c.args.index.now c.args.slots.now (search_value c.args.request.now) c.args.base.now c.check.ensures c.requires.index c.requires.base)

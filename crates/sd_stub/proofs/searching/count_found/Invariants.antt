@@ -6,4 +6,4 @@ use Rattle.sd_stub.proofs.searching.count_found.Given as goal
 
 -- those found so far, and those that are left
 abbrev pub invariant-loop-place : goal.invariant-loop-place
-invariant-loop-place l = (l.count + length (found (picked l.entries (drop l.place-index l.places)) (search_value l.request)) ≡ length (found (picked l.entries l.places) (search_value l.request))) × (l.count ≤ l.place-index)
+invariant-loop-place l = (l.count + length (found (picked l.slots (drop l.place-index l.places)) (search_value l.request)) ≡ length (found (picked l.slots l.places) (search_value l.request))) × (l.count ≤ l.place-index)
