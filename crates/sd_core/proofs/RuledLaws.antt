@@ -1,5 +1,5 @@
 -- Compiled rules say what the newest answer says, after each entry and after a forget.
-use Rattle.std.proofs.Common.{◌≡◌, ℕ, ◌+◌, ◌<◌, ◌≤◌, ◌^◌, Bool, true, false, List, [], ◌∷◌, length, arith, refl, sym, ap, subst, ◌∙◌}
+use Rattle.std.proofs.Common.{◌≡◌, ℕ, ◌+◌, ◌*◌, ◌<◌, ◌≤◌, ◌^◌, Bool, true, false, List, [], ◌∷◌, length, arith, refl, sym, ap, subst, ◌∙◌}
 use Rattle.std.specs.Prelude.{Option, Some, None}
 use Rattle.sd_rules.specs.declared.keys.Key.TheVariants as keys
 use Rattle.sd_rules.specs.declared.records.Answered.{Answered}
@@ -20,7 +20,7 @@ use Rattle.sd_past.specs.Closing.{closes_place}
 use Rattle.sd_core.specs.Bounds.{bytes_of_standing}
 use Rattle.sd_core.specs.declared.rulings.Numbered.{Numbered}
 use Rattle.sd_core.specs.Ruled.{book_in, IsCompiledOf, reply_by_compiled, SaysRules, SaysAfter, chosen}
-use Rattle.sd_core.proofs.Sizes.{rules_within_bytes, spoken_within, answer_within}
+use Rattle.sd_core.proofs.Sizes.{rules_within_bytes, spoken_within, answer_within, newest_within}
 
 -- the reply by a book, where one was answered
 abbrev reply_by : Asker → ℕ → Option RuleBook → Option ℕ
@@ -70,6 +70,13 @@ told_below past e h =
     let own = spoken_within keys.Rules (answer_in past e) in
     let held = answer_within past e e.event in
     omega (arith, own, held, h)
+
+-- so is the newest answer of a journal that is opened
+pub opened_below : (past list : List Entry) (o : Option Standing) → o ≡ newest past keys.Rules → past ≡ list → text_bytes list ≤ 512 * 1024 * 1024 → bytes_of_standing o < 2 ^ 32
+opened_below past list o is same fits =
+    let within = newest_within list keys.Rules in
+    let at : o ≡ newest list keys.Rules = is ∙ ap (λ (es : List Entry). newest es keys.Rules) same in
+    subst (λ (x : Option Standing). bytes_of_standing x < 2 ^ 32) (sym at) (omega (arith, within, fits))
 
 -- after an entry that answers the question for the rules, and after any other
 pub says_after : {R : Type 0} (Says : R → Option Standing → Type 0) (past : List Entry) (e : Entry) (a : Standing) (made : R) → spoken keys.Rules (answer_in past e) ≡ Some a
