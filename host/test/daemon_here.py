@@ -25,9 +25,6 @@ def unit_environment():
     return dict(word.split("=", 1) for words in lines for word in words)
 
 
-counts = {"passed": 0, "FAILED": 0, "skipped": 0}
-
-
 class Client:
     """One connection that asks as it should."""
 

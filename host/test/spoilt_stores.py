@@ -25,7 +25,7 @@ def spoilt_stores(program, folder, seed):
     place = os.path.join(folder, "small")
     os.makedirs(place)
     if subprocess.run(["unshare", "-m", "true"], stderr=subprocess.DEVNULL, check=False).returncode != 0:
-        tell("skipped", "a store that is full, or read-only", "no mount namespace can be made here")
+        tell("skipped", "stores that are full, read-only or cut", "no mount namespace can be made here")
         return
     mounted = 'mount -t tmpfs -o mode=0700,size=512k tmpfs "$1"; touch "$1/there"; exec sleep 600'
     holder = subprocess.Popen(["unshare", "-m", "sh", "-ec", mounted, "sh", place])
