@@ -1,6 +1,7 @@
 -- What the searches of a lookup ask on their link, and the fault behind a link that fell.
-use Rattle.std.proofs.Common.{◌≡◌, ◌≢◌, ◌∙◌, ◌⊎◌, ℕ, ◌+◌, ◌≤◌, true, List, [], ◌∷◌, ◌++◌, length, Option, Some, None, refl, sym, ap, subst, inl, inr, append_assoc, append-nil, arith}
+use Rattle.std.proofs.Common.{◌≡◌, ◌∙◌, ◌⊎◌, ℕ, ◌+◌, ◌≤◌, List, [], ◌∷◌, ◌++◌, length, Option, Some, None, refl, sym, ap, subst, inl, inr, append_assoc, append-nil, arith}
 use Rattle.std.specs.Prelude.{IfSome, IsSome}
+use Rattle.std.specs.Io.KnownBytes.{append_known}
 use Rattle.sd_base.specs.Causes.{Rose}
 use Rattle.sd_base.specs.declared.Why.{Why}
 use Rattle.sd_base.specs.declared.Why.TheVariants as whys
@@ -15,17 +16,20 @@ use Rattle.sd_dial.specs.Asked.{with_message}
 use Rattle.sd_dial.specs.Entries.{Behind}
 use Rattle.sd_dial.specs.declared.searched.Searched.{Searched}
 use Rattle.sd_dial.specs.declared.searched.Searched.TheVariants as searches
-use Rattle.sd_client.specs.Deciding.{Decision}
-use Rattle.sd_client.specs.Talk.{Talk, IsSearched, IsUnsearched, IsUnbound, bind_message, unbind_message, failure_by_search}
+use Rattle.sd_client.specs.declared.step.Request.TheVariants as requests
+use Rattle.sd_client.specs.Deciding.{Decision, decided}
+use Rattle.sd_client.specs.Talk.{Talk, IsSearched, IsUnsearched, IsBound, IsUnbound, bind_message, unbind_message, failure_by_search}
 use Rattle.sd_asking.specs.Settled.{IsSettled}
 use Rattle.sd_asking.specs.Binding.{told_bind, IsToldBind}
-use Rattle.sd_fetch.specs.Exchanging.{Telling, Exchange, Went, Goes, Gave, AllGave, IsLast, EndsBy, FailedBy, request_of, is_stop}
-use Rattle.sd_fetch.specs.Looked.{Looked}
+use Rattle.sd_fetch.specs.Exchanging.{Telling, Exchange, Went, Goes, Gave, AllGave, IsLast, EndsBy, FailedBy, request_of}
+use Rattle.sd_fetch.specs.Looked.{Looked, BeginsBy, Answers}
 use Rattle.sd_fetch.specs.Told.{IsToldLookup, searches_of, first_failure}
 use Rattle.sd_fetch.specs.Lookup.{looked_up}
 use Rattle.sd_inquiry.specs.Binds.{IsUnsentBind, BindsOver}
 use Rattle.sd_inquiry.specs.Lookups.{AreAsked, LooksOver, IsToldFetch, with_messages}
+use Rattle.sd_inquiry.specs.Received.{DecidesSearch, DecidesBind}
 use Rattle.sd_inquiry.proofs.Faults.{rose_earlier, rose_later}
+use Rattle.sd_inquiry.proofs.Receiving.{Grew, grew_nothing, grew_more, went_grew, searched_on, searched_by, bound_by, unsearched_by}
 
 with_none : (known : Option (List MessageValue)) → known ≡ with_messages known []
 with_none None = refl
@@ -43,57 +47,156 @@ pub with_both : (known : Option (List MessageValue)) (first rest : List MessageV
 with_both None first rest = refl
 with_both (Some messages) first rest = ap Some (append_assoc messages first rest)
 
-unsearched_stops : (s : Searched) (rose : Type 0) → IsUnsearched s rose → is_stop s ≡ true
-unsearched_stops (searches.Entries found) rose h = absurd h
-unsearched_stops (searches.Code code) rose h = absurd h
-unsearched_stops (searches.Failed why) rose h = refl
-unsearched_stops searches.Memory rose h = refl
+-- ---- what is asked up to the first failure, behind which nothing is sent
 
-again_stops : (s : Searched) (why : Why) → s ≡ searches.Failed why → is_stop s ≡ true
-again_stops s why h = ap is_stop h
+gave_well : (s : Searched) → Gave s → failure_by_search s ≡ None
+gave_well (searches.Entries given) h = refl
+gave_well (searches.Code code) h = refl
+gave_well (searches.Failed why) h = absurd h
+gave_well searches.Memory h = absurd h
 
--- what was not sent ends a lookup
-unsent_stops : {L : Type 0} (t : Telling L) (old : Talk L) (x : Exchange) (new : Talk L) → Went t old x new → new.next ≡ old.next → is_stop x.searched ≡ true
-unsent_stops t old x new w same = by_state old.failed refl
-  where
-    by_state : (failed : Option Why) → old.failed ≡ failed → is_stop x.searched ≡ true
-    by_state (Some why) f = again_stops x.searched why (subst (λ (o : Option Why). IfSome o (λ why. (x.searched ≡ searches.Failed why) × (new ≡ old))) f w.again).0
-    by_state None f = unsearched_stops x.searched _ (w.no_reply f same)
+abbrev pub where_well : Option Why → List Exchange → List Exchange
+where_well None xs = xs
+where_well (Some why) xs = []
 
--- what exchanges ask along a link
+abbrev pub up_to_failure : List Exchange → List Exchange
+up_to_failure [] = []
+up_to_failure (x ∷ xs) = x ∷ where_well (failure_by_search x.searched) (up_to_failure xs)
+
+well_whole : (failure : Option Why) (xs : List Exchange) → failure ≡ None → where_well failure xs ≡ xs
+well_whole failure xs e = ap (λ (o : Option Why). where_well o xs) e
+
+none_left : (failure : Option Why) → where_well failure [] ≡ []
+none_left None = refl
+none_left (Some why) = refl
+
+all_whole : (xs : List Exchange) → AllGave xs → up_to_failure xs ≡ xs
+all_whole [] h = refl
+all_whole (x ∷ xs) h = ap (λ (ys : List Exchange). x ∷ ys) (well_whole (failure_by_search x.searched) (up_to_failure xs) (gave_well x.searched h.0) ∙ all_whole xs h.1)
+
+last_whole : (before : List Exchange) (y : Exchange) → AllGave before → up_to_failure (before ++ y ∷ []) ≡ before ++ y ∷ []
+last_whole [] y h = ap (λ (ys : List Exchange). y ∷ ys) (none_left (failure_by_search y.searched))
+last_whole (x ∷ before) y h =
+    ap (λ (ys : List Exchange). x ∷ ys) (well_whole (failure_by_search x.searched) (up_to_failure (before ++ y ∷ [])) (gave_well x.searched h.0) ∙ last_whole before y h.1)
+
+is_last_whole : (s : Searched) (xs : List Exchange) → IsLast s xs → up_to_failure xs ≡ xs
+is_last_whole s xs l = ap up_to_failure l.are ∙ last_whole l.before (record { search = l.search; searched = s }) l.gave ∙ sym l.are
+
+-- that is all, but where memory was wanting
+whole : (f : Fetched) (xs : List Exchange) → EndsBy f xs → (f ≡ fetches.Memory) ⊎ (up_to_failure xs ≡ xs)
+whole (fetches.Found found) xs h = inr (all_whole xs h)
+whole fetches.Absent xs h = inr (all_whole xs h)
+whole (fetches.Many count) xs h = inr (all_whole xs h)
+whole (fetches.Refused code) xs h = inr (is_last_whole (searches.Code code) xs h.1)
+whole (fetches.Failed why) xs h = inr (elim h [ inl last ↦ is_last_whole (searches.Failed why) xs last | inr code ↦ is_last_whole (searches.Code code.0) xs code.3 ])
+whole fetches.Memory xs h = inl refl
+
+begins_alike : (config : Config) (key : Key) (f : Fetched) (xs : List Exchange) → BeginsBy config key xs f → BeginsBy config key (up_to_failure xs) f
+begins_alike config key f [] h = h
+begins_alike config key f (x ∷ xs) h = h
+
+ends_alike : (f : Fetched) (xs : List Exchange) → EndsBy f xs → EndsBy f (up_to_failure xs)
+ends_alike f xs h = elim (whole f xs h) [
+  | inl starved ↦ subst (λ (g : Fetched). EndsBy g (up_to_failure xs)) (sym starved) tt
+  | inr same ↦ subst (EndsBy f) (sym same) h
+]
+
+answers_alike : (config : Config) (key : Key) (f : Fetched) (xs : List Exchange) → EndsBy f xs → Answers config key xs f → Answers config key (up_to_failure xs) f
+answers_alike config key f xs h answers = elim (whole f xs h) [
+  | inl starved ↦ subst (λ (g : Fetched). Answers config key (up_to_failure xs) g) (sym starved) tt
+  | inr same ↦ subst (λ (ys : List Exchange). Answers config key ys f) (sym same) answers
+]
+
+-- a client that has failed stays as it is
+stuck : {L : Type 0} (t : Telling L) (old : Talk L) (exchanges : List Exchange) (new : Talk L) (why : Why) → old.failed ≡ Some why → Goes t old exchanges new → new ≡ old
+stuck {L} t old [] new why failed goes = sym goes
+stuck {L} t old (x ∷ xs) new why failed goes =
+    let same : goes.0 ≡ old = (subst (λ (o : Option Why). IfSome o (λ why. (x.searched ≡ searches.Failed why) × (goes.0 ≡ old))) failed goes.1.again).1 in
+    stuck t goes.0 xs new why (ap (λ (talk : Talk L). talk.failed) same ∙ failed) goes.2 ∙ same
+
+-- what exchanges ask along a link, and what comes over it
 pub record Along {L : Type 0} (t : Telling L) (old : Talk L) (exchanges : List Exchange) (new : Talk L) : Type 0 where
   pub messages : List MessageValue
-  pub sent : AreAsked old.next exchanges messages new.next
+  pub sent : AreAsked new.received old.next old.at (up_to_failure exchanges) messages new.next
   pub told : t.asked new.link ≡ with_messages (t.asked old.link) messages
+  pub grew : Grew old.received new.received (t.received old.link) (t.received new.link)
 
-along_unsent : {L : Type 0} (t : Telling L) (old between new : Talk L) (x : Exchange) (xs : List Exchange) → Went t old x between → between.next ≡ old.next → Along t between xs new → Along t old (x ∷ xs) new
-along_unsent t old between new x xs w same rest = record {
+-- a search that did not fail, and those behind it
+on_unsent : {L : Type 0} (t : Telling L) (old between new : Talk L) (x : Exchange) (xs : List Exchange) → Went t old x between → old.failed ≡ None → failure_by_search x.searched ≡ None → between.next ≡ old.next → Along t between xs new → Along t old (x ∷ xs) new
+on_unsent t old between new x xs w well fine same rest = record {
   messages = rest.messages;
-  sent = inr (unsent_stops t old x between w same, subst (λ (id : ℕ). AreAsked id xs rest.messages new.next) same rest.sent);
+  sent =
+      subst (λ (o : Option Why). AreAsked new.received old.next old.at (x ∷ where_well o (up_to_failure xs)) rest.messages new.next) (sym fine)
+      (between.at, inr (unsearched_by x.searched _ (w.no_reply well same), subst (λ (id : ℕ). AreAsked new.received id between.at (up_to_failure xs) rest.messages new.next) same rest.sent));
   told = rest.told ∙ ap (λ (known : Option (List MessageValue)). with_messages known rest.messages) (w.unsent same).asked;
+  grew = grew_more old.received between.received new.received (t.received old.link) (t.received between.link) (t.received new.link) (went_grew t old x between w) rest.grew;
 }
 
-along_sent : {L : Type 0} (t : Telling L) (old between new : Talk L) (x : Exchange) (xs : List Exchange) → Went t old x between → between.next ≡ old.next + 1 → Along t between xs new → Along t old (x ∷ xs) new
-along_sent t old between new x xs w more rest = record {
+decides_on : {L : Type 0} (t : Telling L) (old between new : Talk L) (x : Exchange) → Went t old x between → failure_by_search x.searched ≡ None → between.next ≡ old.next + 1 → Grew between.received new.received (t.received between.link) (t.received new.link)
+    → DecidesSearch new.received old.next old.at x.searched between.at
+decides_on t old between new x w fine more grew =
+    subst (λ (bytes : List ℕ). DecidesSearch bytes old.next old.at x.searched between.at) (sym grew.grown)
+    (searched_on x.searched old.next old.at between.at between.received grew.bytes _ fine (w.reply more))
+
+on_sent : {L : Type 0} (t : Telling L) (old between new : Talk L) (x : Exchange) (xs : List Exchange) → Went t old x between → failure_by_search x.searched ≡ None → between.next ≡ old.next + 1 → Along t between xs new → Along t old (x ∷ xs) new
+on_sent t old between new x xs w fine more rest = record {
   messages = request_of old x ∷ rest.messages;
-  sent = inl (rest.messages, refl, subst (λ (id : ℕ). AreAsked id xs rest.messages new.next) more rest.sent);
+  sent =
+      subst (λ (o : Option Why). AreAsked new.received old.next old.at (x ∷ where_well o (up_to_failure xs)) (request_of old x ∷ rest.messages) new.next) (sym fine)
+      (between.at, inl (rest.messages, refl, decides_on t old between new x w fine more rest.grew, subst (λ (id : ℕ). AreAsked new.received id between.at (up_to_failure xs) rest.messages new.next) more rest.sent));
   told =
       rest.told ∙ ap (λ (known : Option (List MessageValue)). with_messages known rest.messages) (w.asked more).asked
       ∙ with_first (t.asked old.link) (request_of old x) rest.messages;
+  grew = grew_more old.received between.received new.received (t.received old.link) (t.received between.link) (t.received new.link) (went_grew t old x between w) rest.grew;
 }
 
-pub along : {L : Type 0} (t : Telling L) (old : Talk L) (exchanges : List Exchange) (new : Talk L) → Goes t old exchanges new → Along t old exchanges new
-along t old [] new goes = record {
+-- a search that failed is the last
+fails_unsent : {L : Type 0} (t : Telling L) (old new : Talk L) (x : Exchange) (xs : List Exchange) (why : Why) → Went t old x new → old.failed ≡ None → failure_by_search x.searched ≡ Some why → new.next ≡ old.next → Along t old (x ∷ xs) new
+fails_unsent t old new x xs why w well fails same = record {
   messages = [];
-  sent = (refl, sym (ap (λ talk. talk.next) goes));
-  told = sym (ap (λ talk. t.asked talk.link) goes) ∙ with_none (t.asked old.link);
+  sent =
+      subst (λ (o : Option Why). AreAsked new.received old.next old.at (x ∷ where_well o (up_to_failure xs)) [] new.next) (sym fails)
+      (new.at, inr (unsearched_by x.searched _ (w.no_reply well same), (refl, same)));
+  told = (w.unsent same).asked ∙ with_none (t.asked old.link);
+  grew = went_grew t old x new w;
 }
-along t old (x ∷ xs) new goes =
-    let rest = along t goes.0 xs new goes.2 in
-    elim goes.1.used [
-      | inl same ↦ along_unsent t old goes.0 new x xs goes.1 same rest
-      | inr more ↦ along_sent t old goes.0 new x xs goes.1 more rest
-    ]
+
+fails_sent : {L : Type 0} (t : Telling L) (old new : Talk L) (x : Exchange) (xs : List Exchange) (why : Why) → Went t old x new → failure_by_search x.searched ≡ Some why → new.next ≡ old.next + 1 → Along t old (x ∷ xs) new
+fails_sent t old new x xs why w fails more = record {
+  messages = request_of old x ∷ [];
+  sent =
+      subst (λ (o : Option Why). AreAsked new.received old.next old.at (x ∷ where_well o (up_to_failure xs)) (request_of old x ∷ []) new.next) (sym fails)
+      (new.at, inl ([], refl, searched_by x.searched (decided requests.Search old.next old.at new.received) new.at _ (w.reply more), (refl, more)));
+  told = (w.asked more).asked;
+  grew = went_grew t old x new w;
+}
+
+fails_last : {L : Type 0} (t : Telling L) (old new : Talk L) (x : Exchange) (xs : List Exchange) (why : Why) → Went t old x new → old.failed ≡ None → failure_by_search x.searched ≡ Some why → Along t old (x ∷ xs) new
+fails_last t old new x xs why w well fails = elim w.used [
+  | inl same ↦ fails_unsent t old new x xs why w well fails same
+  | inr more ↦ fails_sent t old new x xs why w fails more
+]
+
+goes_on : {L : Type 0} (t : Telling L) (old between new : Talk L) (x : Exchange) (xs : List Exchange) → Went t old x between → old.failed ≡ None → failure_by_search x.searched ≡ None → Along t between xs new → Along t old (x ∷ xs) new
+goes_on t old between new x xs w well fine rest = elim w.used [
+  | inl same ↦ on_unsent t old between new x xs w well fine same rest
+  | inr more ↦ on_sent t old between new x xs w fine more rest
+]
+
+by_failure : {L : Type 0} (t : Telling L) (old between new : Talk L) (x : Exchange) (xs : List Exchange) (failure : Option Why) → Went t old x between → Goes t between xs new → old.failed ≡ None → failure_by_search x.searched ≡ failure
+    → (between.failed ≡ None → Along t between xs new) → Along t old (x ∷ xs) new
+by_failure {L} t old between new x xs None w goes well is rest = goes_on t old between new x xs w well is (rest (w.fails well ∙ is))
+by_failure {L} t old between new x xs (Some why) w goes well is rest =
+    subst (λ (talk : Talk L). Along t old (x ∷ xs) talk) (sym (stuck t between xs new why (w.fails well ∙ is) goes)) (fails_last t old between x xs why w well is)
+
+pub along : {L : Type 0} (t : Telling L) (old : Talk L) (exchanges : List Exchange) (new : Talk L) → old.failed ≡ None → Goes t old exchanges new → Along t old exchanges new
+along {L} t old [] new well goes = record {
+  messages = [];
+  sent = (refl, sym (ap (λ (talk : Talk L). talk.next) goes));
+  told = sym (ap (λ (talk : Talk L). t.asked talk.link) goes) ∙ with_none (t.asked old.link);
+  grew = grew_nothing old.received new.received (t.received old.link) (t.received new.link) (sym (ap (λ (talk : Talk L). talk.received) goes)) (sym (ap (λ (talk : Talk L). t.received talk.link) goes));
+}
+along {L} t old (x ∷ xs) new well goes = by_failure t old goes.0 new x xs (failure_by_search x.searched) goes.1 goes.2 well refl (λ fine. along t goes.0 xs new fine goes.2)
 
 -- ---- faults
 
@@ -115,12 +218,6 @@ fallen_by t old x new well e w = elim w.used [
   | inl same ↦ fallen_unsent x.searched _ _ e (w.no_reply well same)
   | inr more ↦ fallen_sent x.searched _ new.at _ _ e (w.reply more)
 ]
-
-gave_well : (s : Searched) → Gave s → failure_by_search s ≡ None
-gave_well (searches.Entries given) h = refl
-gave_well (searches.Code code) h = refl
-gave_well (searches.Failed why) h = absurd h
-gave_well searches.Memory h = absurd h
 
 -- a link that fell with the last search has a fault more
 fallen_last : {L : Type 0} (t : Telling L) (old : Talk L) (before : List Exchange) (x : Exchange) (new : Talk L) → old.failed ≡ None → AllGave before → x.searched ≡ searches.Failed whys.Link
@@ -153,22 +250,37 @@ without_unbind known between known' first e f = f ∙ e ∙ ap (with_messages kn
 abbrev pub Unbinds : Option Why → ℕ → Option (List MessageValue) → Option (List MessageValue) → Type 0
 Unbinds failed next between known' = ((known' ≡ with_message between (unbind_message next)) ⊎ (known' ≡ between))
 
+-- what a lookup asked, with what then unbinds
+looked_on : {L : Type 0} (t : Telling L) (config : Config) (key : Key) (before : L) (fetched : Fetched) (talk : Talk L) (line : L) (unbinds : List MessageValue) → (looked : Looked t config key (fresh before) fetched talk) → (a : Along t (fresh before) looked.exchanges talk)
+    → (unbinds ≡ []) ⊎ (unbinds ≡ unbind_message talk.next ∷ []) → t.asked line ≡ with_messages (t.asked before) (a.messages ++ unbinds) → t.received line ≡ t.received talk.link
+    → LooksOver config key fetched (t.asked before) (t.asked line) (t.received before) (t.received line)
+looked_on t config key before fetched talk line unbinds looked a may told same = record {
+  messages = a.messages ++ unbinds;
+  received = talk.received;
+  asked = record {
+    exchanges = up_to_failure looked.exchanges;
+    searches = a.messages;
+    next = talk.next;
+    unbinds = unbinds;
+    sent = a.sent;
+    begins = begins_alike config key fetched looked.exchanges looked.begins;
+    ends = ends_alike fetched looked.exchanges looked.ends;
+    answers = answers_alike config key fetched looked.exchanges looked.ends looked.answers;
+    unbind = may;
+    are = refl;
+  };
+  told = told;
+  comes = same ∙ a.grew.told ∙ ap (append_known (t.received before)) (sym a.grew.grown);
+}
+
 pub looks_over : {L : Type 0} (t : Telling L) (config : Config) (key : Key) (old : Talk L) (before : L) (fetched : Fetched) (talk : Talk L) (line : L) → old ≡ fresh before → Looked t config key old fetched talk
-    → Unbinds talk.failed talk.next (t.asked talk.link) (t.asked line) → LooksOver config key fetched (t.asked before) (t.asked line)
-looks_over t config key old before fetched talk line made looked unbinds =
-    let goes : Goes t (fresh before) looked.exchanges talk = subst (λ o. Goes t o looked.exchanges talk) made looked.in_order in
-    let a : Along t (fresh before) looked.exchanges talk = along t (fresh before) looked.exchanges talk goes in
+    → Unbinds talk.failed talk.next (t.asked talk.link) (t.asked line) → t.received line ≡ t.received talk.link → LooksOver config key fetched (t.asked before) (t.asked line) (t.received before) (t.received line)
+looks_over {L} t config key old before fetched talk line made looked unbinds same =
+    let l : Looked t config key (fresh before) fetched talk = subst (λ (o : Talk L). Looked t config key o fetched talk) made looked in
+    let a : Along t (fresh before) l.exchanges talk = along t (fresh before) l.exchanges talk refl l.in_order in
     elim unbinds [
-      | inl unbound ↦ record {
-        messages = a.messages ++ unbind_message talk.next ∷ [];
-        asked = record { exchanges = looked.exchanges; searches = a.messages; next = talk.next; unbinds = unbind_message talk.next ∷ []; sent = a.sent; begins = looked.begins; ends = looked.ends; answers = looked.answers; unbind = inr refl; are = refl };
-        told = with_unbind (t.asked before) (t.asked talk.link) (t.asked line) a.messages (unbind_message talk.next) a.told unbound;
-      }
-      | inr same ↦ record {
-        messages = a.messages ++ [];
-        asked = record { exchanges = looked.exchanges; searches = a.messages; next = talk.next; unbinds = []; sent = a.sent; begins = looked.begins; ends = looked.ends; answers = looked.answers; unbind = inl refl; are = refl };
-        told = without_unbind (t.asked before) (t.asked talk.link) (t.asked line) a.messages a.told same;
-      }
+      | inl unbound ↦ looked_on t config key before fetched talk line (unbind_message talk.next ∷ []) l a (inr refl) (with_unbind (t.asked before) (t.asked talk.link) (t.asked line) a.messages (unbind_message talk.next) a.told unbound) same
+      | inr still ↦ looked_on t config key before fetched talk line [] l a (inl refl) (without_unbind (t.asked before) (t.asked talk.link) (t.asked line) a.messages a.told still) same
     ]
 
 -- the unbind of a client that ends: one that has failed sends none
@@ -241,40 +353,55 @@ unsent_bind (bounds.Code code) rose h = h
 unsent_bind (bounds.Failed why) rose h = h.0
 unsent_bind bounds.Memory rose h = tt
 
-pub binds_over : (dn password : List ℕ) (bound : Bound) (known between known' : Option (List MessageValue)) (failed : Option Why) (next : ℕ) (rose : Type 0)
-    → (next ≡ 1) ⊎ (next ≡ 1 + 1) → (next ≡ 1 → between ≡ known) → (next ≡ 1 → IsUnbound bound rose) → (next ≡ 1 + 1 → between ≡ with_message known (bind_message 1 dn password))
-    → Unbinds failed next between known' → BindsOver dn password bound known known'
-binds_over dn password bound known between known' failed next rose used unsent no_reply sent unbinds = elim used [
-  | inl same ↦ finish [] (unsent same ∙ with_none known) (inr (refl, same, unsent_bind bound rose (no_reply same)))
-  | inr more ↦ finish (bind_message 1 dn password ∷ []) (sent more) (inl (refl, more))
+-- the bind is sent, and the bytes decide it, or it is not sent
+abbrev BindSent : List ℕ → List ℕ → Bound → List ℕ → List MessageValue → ℕ → Type 0
+BindSent dn password bound received binds next = ((binds ≡ bind_message 1 dn password ∷ []) × (next ≡ 2) × DecidesBind received bound) ⊎ ((binds ≡ []) × (next ≡ 1) × IsUnsentBind bound)
+
+bound_over : (dn password : List ℕ) (bound : Bound) (known between known' : Option (List MessageValue)) (before after : Option (List ℕ)) (received : List ℕ) (failed : Option Why) (next : ℕ) (binds : List MessageValue)
+    → BindSent dn password bound received binds next → between ≡ with_messages known binds → after ≡ append_known before received → Unbinds failed next between known' → BindsOver dn password bound known known' before after
+bound_over dn password bound known between known' before after received failed next binds are told comes unbinds = elim unbinds [
+  | inl unbound ↦ record {
+    messages = binds ++ unbind_message next ∷ [];
+    received = received;
+    asked = record { binds = binds; next = next; unbinds = unbind_message next ∷ []; sent = are; unbind = inr refl; are = refl };
+    told = with_unbind known between known' binds (unbind_message next) told unbound;
+    comes = comes;
+  }
+  | inr same ↦ record {
+    messages = binds ++ [];
+    received = received;
+    asked = record { binds = binds; next = next; unbinds = []; sent = are; unbind = inl refl; are = refl };
+    told = without_unbind known between known' binds told same;
+    comes = comes;
+  }
 ]
-  where
-    finish : (binds : List MessageValue) → between ≡ with_messages known binds → ((binds ≡ bind_message 1 dn password ∷ []) × (next ≡ 2)) ⊎ ((binds ≡ []) × (next ≡ 1) × IsUnsentBind bound) → BindsOver dn password bound known known'
-    finish binds told are = elim unbinds [
-      | inl unbound ↦ record {
-        messages = binds ++ unbind_message next ∷ [];
-        asked = record { binds = binds; next = next; unbinds = unbind_message next ∷ []; sent = are; unbind = inr refl; are = refl };
-        told = with_unbind known between known' binds (unbind_message next) told unbound;
-      }
-      | inr same ↦ record {
-        messages = binds ++ [];
-        asked = record { binds = binds; next = next; unbinds = []; sent = are; unbind = inl refl; are = refl };
-        told = without_unbind known between known' binds told same;
-      }
-    ]
 
 -- what a bind says of a client's requests
-pub record BindFacts {L : Type 0} (asked : L → Option (List MessageValue)) (dn password : List ℕ) (bound : Bound) (rose : Type 0) (old new : Talk L) : Type 0 where
+pub record BindFacts {L : Type 0} (asked : L → Option (List MessageValue)) (received : L → Option (List ℕ)) (dn password : List ℕ) (bound : Bound) (refused ended : Type 0) (old new : Talk L) : Type 0 where
   pub used : (new.next ≡ old.next) ⊎ (new.next ≡ old.next + 1)
   pub unsent : new.next ≡ old.next → asked new.link ≡ asked old.link
-  pub no_reply : old.failed ≡ None → new.next ≡ old.next → IsUnbound bound rose
+  pub no_reply : old.failed ≡ None → new.next ≡ old.next → IsUnbound bound refused
   pub sent : new.next ≡ old.next + 1 → asked new.link ≡ with_message (asked old.link) (bind_message old.next dn password)
+  pub reply : new.next ≡ old.next + 1 → IsBound bound (decided requests.Bind old.next old.at new.received) new.at ended
+  pub grew : Grew old.received new.received (received old.link) (received new.link)
 
-pub bind_asks : {L : Type 0} (asked : L → Option (List MessageValue)) (dn password : List ℕ) (bound : Bound) (rose : Type 0) (old new : Talk L) (before line : L) → old ≡ fresh before → BindFacts asked dn password bound rose old new
-    → Unbinds new.failed new.next (asked new.link) (asked line) → BindsOver dn password bound (asked before) (asked line)
-bind_asks {L} asked dn password bound rose old new before line made facts unbinds =
-    let f : BindFacts asked dn password bound rose (fresh before) new = subst (λ (o : Talk L). BindFacts asked dn password bound rose o new) made facts in
-    binds_over dn password bound (asked before) (asked new.link) (asked line) new.failed new.next rose f.used f.unsent (f.no_reply refl) f.sent unbinds
+pub bind_asks : {L : Type 0} (asked : L → Option (List MessageValue)) (received : L → Option (List ℕ)) (dn password : List ℕ) (bound : Bound) (refused ended : Type 0) (old new : Talk L) (before line : L) → old ≡ fresh before
+    → BindFacts asked received dn password bound refused ended old new → Unbinds new.failed new.next (asked new.link) (asked line) → received line ≡ received new.link → BindsOver dn password bound (asked before) (asked line) (received before) (received line)
+bind_asks {L} asked received dn password bound refused ended old new before line made facts unbinds same =
+    let f : BindFacts asked received dn password bound refused ended (fresh before) new = subst (λ (o : Talk L). BindFacts asked received dn password bound refused ended o new) made facts in
+    let comes : received line ≡ append_known (received before) new.received = same ∙ f.grew.told ∙ ap (append_known (received before)) (sym f.grew.grown) in
+    elim f.used [
+      | inl still ↦
+          bound_over dn password bound (asked before) (asked new.link) (asked line) (received before) (received line) new.received new.failed new.next []
+          (inr (refl, still, unsent_bind bound refused (f.no_reply refl still))) (f.unsent still ∙ with_none (asked before)) comes unbinds
+      | inr more ↦
+          bound_over dn password bound (asked before) (asked new.link) (asked line) (received before) (received line) new.received new.failed new.next (bind_message 1 dn password ∷ [])
+          (inl (refl, more, (new.at, bound_by bound (decided requests.Bind 1 0 new.received) new.at ended (f.reply more)))) (f.sent more) comes unbinds
+    ]
+
+-- what came in a bind
+pub bind_grew : (next next' : ℕ) (before after : List ℕ) (known known' : Option (List ℕ)) → (next' ≡ next) ⊎ (next' ≡ next + 1) → (next' ≡ next → Grew before after known known') → (next' ≡ next + 1 → Grew before after known known') → Grew before after known known'
+bind_grew next next' before after known known' used unsent sent = elim used [ inl same ↦ unsent same | inr more ↦ sent more ]
 
 pub bind_fallen : {L : Type 0} (faults : L → ℕ) (old : Talk L) (before : L) (new line : ℕ) (P Q : Type 0) → old ≡ fresh before → new ≤ line → (old.failed ≡ None → P → Rose (faults old.link) new × Q) → P → Rose (faults before) line
 bind_fallen {L} faults old before new line P Q made later cause is =

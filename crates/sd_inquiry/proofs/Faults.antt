@@ -1,11 +1,13 @@
 -- Counts of faults along a line, and the operations that a dialer then tells.
-use Rattle.std.proofs.Common.{◌≡◌, ◌∙◌, ◌⊎◌, ℕ, zero, suc, ◌+◌, ◌-◌, ◌^◌, ◌<◌, ◌≤◌, List, [], ◌∷◌, ◌++◌, Option, Some, None, refl, sym, ap, subst, inl, inr, append_assoc, append-nil, arith, map}
-use Rattle.std.specs.Prelude.{IfSome, IsSome, min}
+use Rattle.std.proofs.Common.{◌≡◌, ◌∙◌, ℕ, zero, suc, ◌<◌, ◌≤◌, List, [], ◌∷◌, ◌++◌, Option, Some, None, refl, sym, ap, append_assoc, append-nil, arith, map}
+use Rattle.std.specs.Prelude.{IfSome, IsSome}
+use Rattle.std.specs.Io.KnownBytes.{append_known}
 use Rattle.sd_base.specs.Causes.{Rose}
 use Rattle.sd_ldap.specs.Values.{MessageValue}
-use Rattle.sd_dial.specs.Operations.{Operation, dialled, asked, with_dial, with_asked}
+use Rattle.sd_dial.specs.Operations.{Operation, dialled, asked, with_dial, with_asked, with_received}
 use Rattle.sd_inquiry.specs.Counting.{HasNotFallen}
 use Rattle.sd_inquiry.specs.Lookups.{with_messages, with_operations, asked_on}
+use Rattle.sd_inquiry.specs.Received.{with_lines}
 
 -- what rose from a later moment on rose from an earlier one on
 pub rose_earlier : (a b c : ℕ) → a ≤ b → Rose b c → Rose a c
@@ -45,3 +47,19 @@ asks_on (Some operations) between known' (Some earlier) line' server messages di
     ∙ ap (with_asked (with_dial (Some operations) server)) asks
     ∙ ap (λ (ms : List MessageValue). with_asked (with_dial (Some operations) server) (with_messages (Some ms) messages)) none
     ∙ told_operations operations server messages
+
+-- the bytes told where a dial failed
+pub receives_nothing : (known known' : Option (List (List ℕ))) → known' ≡ known → known' ≡ with_lines known []
+receives_nothing None known' e = e
+receives_nothing (Some lines) known' e = e ∙ ap Some (sym (append-nil lines))
+
+-- the bytes told of a line that was dialled and given back
+pub receives_on : (known between known' : Option (List (List ℕ))) (line line' : Option (List ℕ)) (bytes : List ℕ) → between ≡ known → IfSome line (λ (received : List ℕ). received ≡ []) → (IsSome known → IsSome line) → line' ≡ append_known line bytes
+    → known' ≡ with_received between line' → known' ≡ with_lines known (bytes ∷ [])
+receives_on None between known' line line' bytes dial none tells comes done = done ∙ ap (λ (o : Option (List (List ℕ))). with_received o line') dial
+receives_on (Some lines) between known' None line' bytes dial none tells comes done = let e = tells refl in cc
+receives_on (Some lines) between known' (Some earlier) line' bytes dial none tells comes done =
+    done
+    ∙ ap (λ (o : Option (List (List ℕ))). with_received o line') dial
+    ∙ ap (with_received (Some lines)) comes
+    ∙ ap (λ (first : List ℕ). with_received (Some lines) (append_known (Some first) bytes)) none

@@ -1,3 +1,4 @@
 pub mod Counting
+pub mod Received
 pub mod Lookups
 pub mod Binds

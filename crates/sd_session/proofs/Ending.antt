@@ -13,6 +13,7 @@ use Rattle.sd_conf.specs.declared.config.Config.{Config}
 use Rattle.sd_dial.specs.Operations.{Operation}
 use Rattle.sd_inquiry.specs.Counting.{HasNotFallen}
 use Rattle.sd_inquiry.specs.Lookups.{with_operations}
+use Rattle.sd_inquiry.specs.Received.{with_lines}
 use Rattle.sd_course.specs.Courses.{Client, need_of, event_of, client_replied}
 use Rattle.sd_engine.specs.declared.ending.SessionEnd.{SessionEnd}
 use Rattle.sd_engine.specs.declared.ending.SessionEnd.TheVariants as ends
@@ -22,17 +23,27 @@ use Rattle.sd_engine.specs.Leading.{about}
 use Rattle.sd_engine.specs.Turns.{Dialling}
 use Rattle.sd_session.specs.Sessions.{Company, Finds, Finishes, Refuses, Steps, Stand, moved, stand_after, frames_of, TracesOn, CountsFalls}
 use Rattle.sd_session.specs.Closing.{Accounts, AreLed, NoneReserved}
-use Rattle.sd_session.specs.Running.{AskedLast, LeadsOn, RanTo, Unfinished, Outside, Stands, Took, TookMore, EndsAs, Asked}
+use Rattle.sd_session.specs.Running.{AskedAll, AskedLast, IsAskedTo, LeadsOn, RanTo, Unfinished, Outside, Stands, Took, TookMore, EndsAs, Asked}
 use Rattle.sd_session.specs.Stepping.{IsMade, IsRefused, RefusedAs}
 use Rattle.sd_session.proofs.Accounting.{account_over, account_reached, none_reserved}
 use Rattle.sd_session.proofs.HeldLaws.{over_holds_nothing}
-use Rattle.sd_session.proofs.Standing.{more_operations, reads_more, may_step_on, traces_step, all_whole, account_by, in_hand_as, step_account, led_by_step}
+use Rattle.sd_session.proofs.Standing.{more_operations, more_lines, reads_more, may_step_on, traces_step, all_whole, account_by, in_hand_as, step_account, led_by_step}
 
 operations_same : (known now : Option (List Operation)) (all : List Operation) → now ≡ with_operations known all → now ≡ with_operations known (all ++ [])
 operations_same known now all e = e ∙ ap (with_operations known) (sym (append-nil all))
 
--- the operations asked, where no lookup was cut short
-asked_as : (config : Config) (ending : SessionEnd) (s : Stand) (before p : Outside) → p.dialling.operations ≡ with_operations before.dialling.operations s.operations → Asked config ending s before p
+lines_same : (known now : Option (List (List ℕ))) (all : List (List ℕ)) → now ≡ with_lines known all → now ≡ with_lines known (all ++ [])
+lines_same known now all e = e ∙ ap (with_lines known) (sym (append-nil all))
+
+-- all that was asked and received
+all_asked : (s t : Stand) (before d e : Dialling) → t.operations ≡ s.operations → t.received ≡ s.received → e ≡ d → IsAskedTo s before d → AskedAll t before e
+all_asked s t before d e operations received same asked = record {
+  operations = ap (λ (x : Dialling). x.operations) same ∙ asked.operations ∙ ap (with_operations before.operations) (sym operations);
+  received = ap (λ (x : Dialling). x.received) same ∙ asked.received ∙ ap (with_lines before.received) (sym received);
+}
+
+-- the same, where no lookup was cut short
+asked_as : (config : Config) (ending : SessionEnd) (s : Stand) (before p : Outside) → AskedAll s before.dialling p.dialling → Asked config ending s before p
 asked_as config ends.Closed s before p e = e
 asked_as config ends.Stopped s before p e = e
 asked_as config ends.ReadFault s before p e = e
@@ -41,7 +52,13 @@ asked_as config (ends.BadFrame at) s before p e = e
 asked_as config ends.Cut s before p e = e
 asked_as config (ends.Long count) s before p e = e
 asked_as config (ends.JournalFull count) s before p e = e
-asked_as config ends.Memory s before p e = record { more = []; last = inl refl; told = operations_same before.dialling.operations p.dialling.operations s.operations e }
+asked_as config ends.Memory s before p e = record {
+  more = [];
+  lines = [];
+  last = inl (refl, refl);
+  told = operations_same before.dialling.operations p.dialling.operations s.operations e.operations;
+  received = lines_same before.dialling.received p.dialling.received s.received e.received;
+}
 
 -- what a turn that ends the session leaves outside
 pub record Leaves (o p : Outside) : Type 0 where
@@ -139,7 +156,7 @@ ran_hearing w seed config d before ending e f daemon o p s none same l dialling 
     let s0 : Stand = stand_after seed config d s.moves in
     subst (λ (x : Engine). RanTo w seed config d before ending x daemon p) (sym same)
     (ran_as w seed config d before ending e e daemon o p s l (subst (λ (x : Dialling). HasNotFallen o.dialling.faults x.faults) (sym dialling) (omega arith))
-    (asked_as config ending s0 before p (ap (λ (x : Dialling). x.operations) dialling ∙ s.asked.operations))
+    (asked_as config ending s0 before p (all_asked s0 s0 before.dialling o.dialling p.dialling refl refl dialling s.asked))
     (heard_ends w ending s0 e before o p (sym s.hand.client ∙ none) (sym s.written.broken ∙ all_whole e.has_failed e.client none s.written.told) s.heard.consumed s.heard.place s.heard.reads h)
     (idle ending daemon e s0.own none s.account))
 
@@ -151,7 +168,7 @@ took_unread s e before o p left consumed = record { rest = e.inbox.bytes; taken 
 pub ran_stopped : (w : Company) (seed : List ℕ) (config : Config) (d : Daemon) (before : Outside) (e : Engine) (daemon : Daemon) (o : Outside) → Stands w seed config d before e daemon o → e.client ≡ None → e.stops ≡ true → RanTo w seed config d before ends.Stopped e daemon o
 ran_stopped w seed config d before e daemon o s none stops =
     let s0 : Stand = stand_after seed config d s.moves in
-    ran_as w seed config d before ends.Stopped e e daemon o o s (record { held = refl; trace = refl; reads = omega arith; writes = omega arith }) (omega arith) s.asked.operations
+    ran_as w seed config d before ends.Stopped e e daemon o o s (record { held = refl; trace = refl; reads = omega arith; writes = omega arith }) (omega arith) (all_asked s0 s0 before.dialling o.dialling o.dialling refl refl refl s.asked)
     (sym s.hand.client ∙ none, sym s.written.broken ∙ all_whole e.has_failed e.client none s.written.told, sym s.heard.stops ∙ stops, took_unread s0 e before o o refl s.heard.consumed) (idle ends.Stopped daemon e s0.own none s.account)
 
 -- the request in hand is carried out, and its answer was not written whole
@@ -167,7 +184,7 @@ ran_write_fault w seed config d before e f daemon o p c s is needed failed new l
         stepped = s.hand.same;
         written = subst (λ (x : Option (List ℕ)). Appends before.held x s0.written) (sym l.held) s.written.written;
         trace = subst (TracesOn before.trace s0) (sym l.trace) s.trace;
-        operations = ap (λ (x : Dialling). x.operations) dialling ∙ s.asked.operations;
+        operations = all_asked s0 t before.dialling o.dialling p.dialling refl refl dialling s.asked;
         falls = subst (λ (x : Dialling). CountsFalls before.dialling.faults s0.falls x.faults) (sym dialling) s.asked.falls;
         why = (refl, sym s.written.broken ∙ failed, took_unread t e before o p left s.heard.consumed);
         failed = λ b. let rose = s.written.failed b in omega (arith, rose, l.writes);
@@ -180,21 +197,31 @@ ran_write_fault w seed config d before e f daemon o p c s is needed failed new l
     }
 
 -- memory was wanting, maybe for what a lookup or a bind came to
-pub ran_starved : (w : Company) (seed : List ℕ) (config : Config) (d : Daemon) (before : Outside) (e f : Engine) (daemon : Daemon) (o p : Outside) (more : List Operation) → (s : Stands w seed config d before e daemon o) → AskedLast config (stand_after seed config d s.moves) more → f.leads ≡ e.leads → f.ticket ≡ e.ticket → Leaves o p → p.left ≡ o.left
-    → HasNotFallen o.dialling.faults p.dialling.faults → p.dialling.operations ≡ with_operations o.dialling.operations more → RanTo w seed config d before ends.Memory f daemon p
-ran_starved w seed config d before e f daemon o p more s last leads ticket l left later operations =
+pub ran_starved : (w : Company) (seed : List ℕ) (config : Config) (d : Daemon) (before : Outside) (e f : Engine) (daemon : Daemon) (o p : Outside) (more : List Operation) (lines : List (List ℕ)) → (s : Stands w seed config d before e daemon o) → AskedLast config (stand_after seed config d s.moves) more lines → f.leads ≡ e.leads → f.ticket ≡ e.ticket → Leaves o p → p.left ≡ o.left
+    → HasNotFallen o.dialling.faults p.dialling.faults → p.dialling.operations ≡ with_operations o.dialling.operations more → p.dialling.received ≡ with_lines o.dialling.received lines → RanTo w seed config d before ends.Memory f daemon p
+ran_starved w seed config d before e f daemon o p more lines s last leads ticket l left later operations received =
     let s0 : Stand = stand_after seed config d s.moves in
     ran_as w seed config d before ends.Memory e f daemon o p s l later
-    (record { more = more; last = last; told = more_operations before.dialling.operations o.dialling.operations p.dialling.operations s0.operations more s.asked.operations operations })
+    (record {
+      more = more;
+      lines = lines;
+      last = last;
+      told = more_operations before.dialling.operations o.dialling.operations p.dialling.operations s0.operations more s.asked.operations operations;
+      received = more_lines before.dialling.received o.dialling.received p.dialling.received s0.received lines s.asked.received received;
+    })
     (took_unread s0 e before o p left s.heard.consumed) (led_as daemon e f s0.own leads ticket s.account.led)
 
 same_operations : (known : Option (List Operation)) → known ≡ with_operations known []
 same_operations None = refl
 same_operations (Some operations) = ap Some (sym (append-nil operations))
 
+pub same_lines : (known : Option (List (List ℕ))) → known ≡ with_lines known []
+same_lines None = refl
+same_lines (Some lines) = ap Some (sym (append-nil lines))
+
 pub ran_idle : (w : Company) (seed : List ℕ) (config : Config) (d : Daemon) (before : Outside) (e : Engine) (daemon : Daemon) (o : Outside) → Stands w seed config d before e daemon o → RanTo w seed config d before ends.Memory e daemon o
 ran_idle w seed config d before e daemon o s =
-    ran_starved w seed config d before e e daemon o o [] s (inl refl) refl refl (record { held = refl; trace = refl; reads = omega arith; writes = omega arith }) refl (omega arith) (same_operations o.dialling.operations)
+    ran_starved w seed config d before e e daemon o o [] [] s (inl (refl, refl)) refl refl (record { held = refl; trace = refl; reads = omega arith; writes = omega arith }) refl (omega arith) (same_operations o.dialling.operations) (same_lines o.dialling.received)
 
 -- ---- ends by a step
 
@@ -208,7 +235,7 @@ ran_refused w seed config d before ending e daemon daemon' o p c event s is need
     stepped = refl;
     written = subst (λ (x : Outside). Appends before.held x.held s0.written) (sym same) s.written.written;
     trace = (reads_more before.trace.readings o.trace.readings p.trace.readings s0.moments r.now s.trace.0 r.read, r.entries ∙ s.trace.1);
-    operations = asked_as config ending t before p (ap (λ (x : Outside). x.dialling.operations) same ∙ s.asked.operations);
+    operations = asked_as config ending t before p (all_asked s0 t before.dialling o.dialling p.dialling refl refl (ap (λ (x : Outside). x.dialling) same) s.asked);
     falls = subst (λ (x : Outside). CountsFalls before.dialling.faults s0.falls x.dialling.faults) (sym same) s.asked.falls;
     why = by_end ending r.why forgot;
     failed = λ b. subst (λ (x : Outside). Rose before.writes x.writes) (sym same) (s.written.failed b);
@@ -274,7 +301,7 @@ ran_untold w seed config d before e f daemon daemon' o p c event gave s is neede
         stepped = m.made;
         written = subst (λ (x : Outside). Appends before.held x.held s0.written) (sym same) s.written.written;
         trace = traces_step w before.trace o.trace p.trace s0 daemon daemon' event gave s.trace m;
-        operations = asked_as config ends.Memory t before p (ap (λ (x : Outside). x.dialling.operations) same ∙ s.asked.operations);
+        operations = asked_as config ends.Memory t before p (all_asked s0 t before.dialling o.dialling p.dialling refl refl (ap (λ (x : Outside). x.dialling) same) s.asked);
         falls = subst (λ (x : Outside). CountsFalls before.dialling.faults s0.falls x.dialling.faults) (sym same) s.asked.falls;
         why = took_unread t e before o p (ap (λ (x : Outside). x.left) same) s.heard.consumed;
         failed = λ b. subst (λ (x : Outside). Rose before.writes x.writes) (sym same) (s.written.failed b);

@@ -12,6 +12,7 @@ use Rattle.sd_engine.specs.Engines.{Engine}
 use Rattle.sd_engine.specs.Engines as engines
 use Rattle.sd_session.specs.Running.{Outside, IsInHand, Stands}
 use Rattle.sd_session.proofs.GivingUp.{reads_none}
+use Rattle.sd_session.proofs.Ending.{same_lines}
 use Rattle.sd_session.proofs.Turning.{nothing_more}
 
 not_yet : {P : Type 0} → false ≡ true → P
@@ -28,7 +29,7 @@ stands_at_first w seed config d o = record {
   heard = record { consumed = Consumes-nil o.left; place = refl; stops = refl; reads = omega arith };
   written = record { written = Appends-nil o.held; broken = refl; told = tt; failed = λ b. not_yet b; writes = omega arith };
   trace = (reads_none o.trace.readings, sym (append-nil o.trace.entries));
-  asked = record { operations = nothing_more o.dialling.operations; behind = λ i. refl; falls = omega arith; later = omega arith };
+  asked = record { operations = nothing_more o.dialling.operations; received = same_lines o.dialling.received; behind = λ i. refl; falls = omega arith; later = omega arith };
   account = record { led = tt; held = tt; sorted = record { renews = refl; requests = λ n h. not_yet h; attempts = λ n h. none_yet h } };
 }
 

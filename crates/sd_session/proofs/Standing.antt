@@ -23,6 +23,7 @@ use Rattle.sd_clock.specs.Readings.{FollowsOn}
 use Rattle.sd_dial.specs.Operations.{Operation}
 use Rattle.sd_inquiry.specs.Counting.{HasNotFallen}
 use Rattle.sd_inquiry.specs.Lookups.{with_operations}
+use Rattle.sd_inquiry.specs.Received.{with_lines}
 use Rattle.sd_inbox.specs.Taking.{Unread}
 use Rattle.sd_wire.specs.declared.requests.Request.{Request}
 use Rattle.sd_wire.specs.Frames.{frame_of}
@@ -49,6 +50,11 @@ pub more_operations : (known between now : Option (List Operation)) (first more 
 more_operations None between now first more e f = f ∙ ap (λ (o : Option (List Operation)). with_operations o more) e
 more_operations (Some operations) between now first more e f =
     f ∙ ap (λ (o : Option (List Operation)). with_operations o more) e ∙ ap Some (append_assoc operations first more)
+
+pub more_lines : (known between now : Option (List (List ℕ))) (first more : List (List ℕ)) → between ≡ with_lines known first → now ≡ with_lines between more → now ≡ with_lines known (first ++ more)
+more_lines None between now first more e f = f ∙ ap (λ (o : Option (List (List ℕ))). with_lines o more) e
+more_lines (Some lines) between now first more e f =
+    f ∙ ap (λ (o : Option (List (List ℕ))). with_lines o more) e ∙ ap Some (append_assoc lines first more)
 
 pub reads_more : (before between now : Option (List ℕ)) (moments : List ℕ) (moment : ℕ) → ReadsOn before moments between → FollowsOn between moment now → ReadsOn before (moments ++ moment ∷ []) now
 reads_more before between None moments moment e f = tt
@@ -202,9 +208,10 @@ written_on s t e f before o p as_written as_broken written same = record {
   writes = omega (arith, written.writes, same.writes);
 }
 
-asked_on : (s t : Stand) (before d e : Dialling) → t.operations ≡ s.operations → t.falls ≡ s.falls → e ≡ d → IsAskedTo s before d → IsAskedTo t before e
-asked_on s t before d e operations falls same asked = record {
+asked_on : (s t : Stand) (before d e : Dialling) → t.operations ≡ s.operations → t.received ≡ s.received → t.falls ≡ s.falls → e ≡ d → IsAskedTo s before d → IsAskedTo t before e
+asked_on s t before d e operations received falls same asked = record {
   operations = ap (λ (x : Dialling). x.operations) same ∙ asked.operations ∙ ap (with_operations before.operations) (sym operations);
+  received = ap (λ (x : Dialling). x.received) same ∙ asked.received ∙ ap (with_lines before.received) (sym received);
   behind = λ i. ap (λ (x : Dialling). x.behind i) same ∙ asked.behind i;
   falls = subst (λ (x : Dialling). CountsFalls before.faults t.falls x.faults) (sym same) (subst (λ (n : ℕ). CountsFalls before.faults n d.faults) (sym falls) asked.falls);
   later = subst (λ (x : Dialling). HasNotFallen before.faults x.faults) (sym same) asked.later;
@@ -238,7 +245,7 @@ stands_hears w seed config d before e f daemon o p s none h reads held writes re
       written = written_on s0 t e f before o p refl refl s.written
           (record { held = held; same = ap (λ (x : Engine). x.has_failed) h.after ∙ sym (all_whole e.has_failed e.client none s.written.told); told = untold f.has_failed f.client (ap (λ (x : Engine). x.has_failed) h.after); writes = writes });
       trace = subst (TracesOn before.trace s0) (sym readings) s.trace;
-      asked = asked_on s0 t before.dialling o.dialling p.dialling refl refl dialling s.asked;
+      asked = asked_on s0 t before.dialling o.dialling p.dialling refl refl refl dialling s.asked;
       account = account_by daemon e f f.client t.own (ap (λ (x : Engine). x.leads) h.after) (ap (λ (x : Engine). x.ticket) h.after)
           (account_hears daemon e.leads e.ticket (client_of seed config.settings h.request) e.client f.client t.own none (ap (λ (x : Engine). x.client) h.after) (first_holds_nothing config.settings h.request) s.account);
     }
@@ -260,7 +267,7 @@ stands_takes w seed config d before e f daemon o p s h reads held writes reading
       written = written_on s0 s0 e f before o p refl refl s.written
           (record { held = held; same = ap (λ (x : Engine). x.has_failed) h.after; told = subst (λ (x : Engine). WasTold x.has_failed x.client) (sym h.after) s.written.told; writes = writes });
       trace = subst (TracesOn before.trace s0) (sym readings) s.trace;
-      asked = asked_on s0 s0 before.dialling o.dialling p.dialling refl refl dialling s.asked;
+      asked = asked_on s0 s0 before.dialling o.dialling p.dialling refl refl refl dialling s.asked;
       account = account_still daemon e f s0.own (ap (λ (x : Engine). x.leads) h.after) (ap (λ (x : Engine). x.ticket) h.after) (ap (λ (x : Engine). x.client) h.after) s.account;
     }
 
@@ -294,7 +301,7 @@ stands_named w seed config d before e f daemon o p c about s is new quiet held w
       written = written_on s0 s0 e f before o p refl refl s.written
           (record { held = held; same = ap (λ (x : Engine). x.has_failed) new; told = subst (λ (x : Engine). WasTold x.has_failed x.client) (sym new) (told_at e c is s.written.told); writes = writes });
       trace = subst (TracesOn before.trace s0) (sym quiet.trace) s.trace;
-      asked = asked_on s0 s0 before.dialling o.dialling p.dialling refl refl dialling s.asked;
+      asked = asked_on s0 s0 before.dialling o.dialling p.dialling refl refl refl dialling s.asked;
       account = account_still daemon e f s0.own (ap (λ (x : Engine). x.leads) new) (ap (λ (x : Engine). x.ticket) new) (ap (λ (x : Engine). x.client) new ∙ sym is) s.account;
     }
 
@@ -302,7 +309,7 @@ pub stands_fetches : (w : Company) (seed : List ℕ) (config : Config) (d : Daem
     → need_of c ≡ needs.Fetch server key → GoesByFetch config server key (done e) c f o.dialling p.dialling → Quiet o p → p.held ≡ o.held → o.writes ≤ p.writes → Stands w seed config d before f daemon p
 stands_fetches w seed config d before e f daemon o p c server key s is needed g quiet held writes =
     let s0 : Stand = stand_after seed config d s.moves in
-    let move : Move = Fetches g.fetched g.lookup.asked.operations in
+    let move : Move = Fetches g.fetched g.lookup.asked.operations g.lookup.asked.lines in
     let t : Stand = moved seed config s0 move in
     let hand : IsInHand seed daemon c = in_hand_as seed daemon e c is s.hand.in_hand in
     record {
@@ -330,6 +337,7 @@ stands_fetches w seed config d before e f daemon o p c server key s is needed g 
       trace = subst (TracesOn before.trace s0) (sym quiet.trace) s.trace;
       asked = record {
         operations = more_operations before.dialling.operations o.dialling.operations p.dialling.operations s0.operations g.lookup.asked.operations s.asked.operations g.lookup.asked.told;
+        received = more_lines before.dialling.received o.dialling.received p.dialling.received s0.received g.lookup.asked.lines s.asked.received g.lookup.asked.received;
         behind = λ i. g.lookup.behind i ∙ s.asked.behind i;
         falls = falls_more before.dialling.faults s0.falls o.dialling.faults p.dialling.faults (fetch_falls g.fetched) s.asked.falls g.lookup.later (fetch_falls_small g.fetched) (λ one. g.lookup.fallen (fetch_fell g.fetched one));
         later = fallen_later _ _ _ s.asked.later g.lookup.later;
@@ -342,7 +350,7 @@ pub stands_binds : (w : Company) (seed : List ℕ) (config : Config) (d : Daemon
     → need_of c ≡ needs.Bind server dn password → GoesByBind server dn password (done e) c f o.dialling p.dialling → Quiet o p → p.held ≡ o.held → o.writes ≤ p.writes → Stands w seed config d before f daemon p
 stands_binds w seed config d before e f daemon o p c server dn password s is needed g quiet held writes =
     let s0 : Stand = stand_after seed config d s.moves in
-    let move : Move = Binds g.bound g.bind.asked.operations in
+    let move : Move = Binds g.bound g.bind.asked.operations g.bind.asked.lines in
     let t : Stand = moved seed config s0 move in
     let hand : IsInHand seed daemon c = in_hand_as seed daemon e c is s.hand.in_hand in
     record {
@@ -371,6 +379,7 @@ stands_binds w seed config d before e f daemon o p c server dn password s is nee
       trace = subst (TracesOn before.trace s0) (sym quiet.trace) s.trace;
       asked = record {
         operations = more_operations before.dialling.operations o.dialling.operations p.dialling.operations s0.operations g.bind.asked.operations s.asked.operations g.bind.asked.told;
+        received = more_lines before.dialling.received o.dialling.received p.dialling.received s0.received g.bind.asked.lines s.asked.received g.bind.asked.received;
         behind = λ i. g.bind.behind i ∙ s.asked.behind i;
         falls = falls_more before.dialling.faults s0.falls o.dialling.faults p.dialling.faults (bind_falls g.bound) s.asked.falls g.bind.later (bind_falls_small g.bound) (λ one. g.bind.fallen (bind_fell g.bound one));
         later = fallen_later _ _ _ s.asked.later g.bind.later;
@@ -403,7 +412,7 @@ stands_tells w seed config d before e f daemon o p c said s is needed g quiet wr
         writes = omega (arith, s.written.writes, writes);
       };
       trace = subst (TracesOn before.trace s0) (sym quiet.trace) s.trace;
-      asked = asked_on s0 t before.dialling o.dialling p.dialling refl refl dialling s.asked;
+      asked = asked_on s0 t before.dialling o.dialling p.dialling refl refl refl dialling s.asked;
       account = account_by daemon e f f.client t.own (ap (λ (x : Engine). x.leads) g.after) (ap (λ (x : Engine). x.ticket) g.after)
           (account_same daemon e.leads e.ticket c (client_told c) e.client f.client t.own is (ap (λ (x : Engine). x.client) g.after) (told_held c.course) s.account);
     }
@@ -432,7 +441,7 @@ stands_breaks w seed config d before e f daemon o p c said s is needed g quiet w
         writes = omega (arith, s.written.writes, writes);
       };
       trace = subst (TracesOn before.trace s0) (sym quiet.trace) s.trace;
-      asked = asked_on s0 t before.dialling o.dialling p.dialling refl refl dialling s.asked;
+      asked = asked_on s0 t before.dialling o.dialling p.dialling refl refl refl dialling s.asked;
       account = account_by daemon e f f.client t.own (ap (λ (x : Engine). x.leads) g.after) (ap (λ (x : Engine). x.ticket) g.after)
           (account_same daemon e.leads e.ticket c (client_told c) e.client f.client t.own is (ap (λ (x : Engine). x.client) g.after) (told_held c.course) s.account);
     }
@@ -454,7 +463,7 @@ stands_finishes w seed config d before e f daemon o p c s is needed fine new qui
       written = written_on s0 t e f before o p refl refl s.written
           (record { held = held; same = ap (λ (x : Engine). x.has_failed) new; told = untold f.has_failed f.client (ap (λ (x : Engine). x.has_failed) new ∙ fine); writes = writes });
       trace = subst (TracesOn before.trace s0) (sym quiet.trace) s.trace;
-      asked = asked_on s0 t before.dialling o.dialling p.dialling refl refl dialling s.asked;
+      asked = asked_on s0 t before.dialling o.dialling p.dialling refl refl refl dialling s.asked;
       account = account_by daemon e f f.client t.own (ap (λ (x : Engine). x.leads) new) (ap (λ (x : Engine). x.ticket) new)
           (account_over daemon e.leads e.ticket c e.client f.client t.own is (ap (λ (x : Engine). x.client) new) (over_holds_nothing c.seed c.course needed) s.account);
     }
@@ -538,7 +547,7 @@ stands_steps w seed config d before e f daemon daemon' o p c event gave s is nee
       written = written_on s0 t e f before o p refl refl s.written
           (unwritten e f o p (ap (λ (x : Engine). x.has_failed) new) (subst (λ (x : Engine). WasTold x.has_failed x.client) (sym new) (told_on e.has_failed c (client_replied c gave) (told_replied c.seed c.course gave) (told_at e c is s.written.told))) same);
       trace = traces_step w before.trace o.trace p.trace s0 daemon daemon' event gave s.trace m;
-      asked = asked_on s0 t before.dialling o.dialling p.dialling refl refl (ap (λ (x : Outside). x.dialling) same) s.asked;
+      asked = asked_on s0 t before.dialling o.dialling p.dialling refl refl refl (ap (λ (x : Outside). x.dialling) same) s.asked;
       account = accounted w seed daemon daemon' e f o.trace p.trace c event gave s0.own is needed about_it m to may hand.known.order s.account
           (ap (λ (x : Engine). x.leads) new) (ap (λ (x : Engine). x.ticket) new) (ap (λ (x : Engine). x.client) new);
     }
@@ -563,7 +572,7 @@ stands_waits w seed config d before e daemon daemon' o p event s r to known same
         reads_more before.trace.readings o.trace.readings p.trace.readings s0.moments r.now s.trace.0 r.read,
         r.entries ∙ s.trace.1,
       );
-      asked = asked_on s0 t before.dialling o.dialling p.dialling refl refl (ap (λ (x : Outside). x.dialling) same) s.asked;
+      asked = asked_on s0 t before.dialling o.dialling p.dialling refl refl refl (ap (λ (x : Outside). x.dialling) same) s.asked;
       account = account_reached daemon daemon' e.leads e.ticket e.client s0.own to s.account;
     }
 
@@ -581,6 +590,6 @@ stands_finds w seed config d before e daemon daemon' o p s others to known same 
       heard = heard_on s0 t e e before o o refl s.heard (record { inbox = refl; stops = refl; left = refl; reads = refl });
       written = written_on s0 t e e before o o refl refl s.written (record { held = refl; same = refl; told = s.written.told; writes = omega arith });
       trace = s.trace;
-      asked = asked_on s0 t before.dialling o.dialling o.dialling refl refl refl s.asked;
+      asked = asked_on s0 t before.dialling o.dialling o.dialling refl refl refl refl s.asked;
       account = account_reached daemon daemon' e.leads e.ticket e.client s0.own to s.account;
     })

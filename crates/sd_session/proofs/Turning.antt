@@ -14,6 +14,7 @@ use Rattle.sd_dial.specs.Entries.{Behind}
 use Rattle.sd_dial.specs.Operations.{Operation}
 use Rattle.sd_inquiry.specs.Counting.{HasNotFallen}
 use Rattle.sd_inquiry.specs.Lookups.{with_operations}
+use Rattle.sd_inquiry.specs.Received.{with_lines}
 use Rattle.sd_course.specs.Courses.{Client, need_of, event_of, script_at}
 use Rattle.sd_session.specs.Sessions.{Company, Trace, stand_after}
 use Rattle.sd_session.specs.Spoken.{IsSpoken}
@@ -26,7 +27,7 @@ use Rattle.sd_engine.specs.Leading.{about}
 use Rattle.sd_engine.specs.Turns.{Dialling, KeepsLeads, Hears, Serves, ServesBy, IsOfKind}
 use Rattle.sd_session.specs.Running.{AskedLast, Stands, Outside, Awaits, GoesOn, EndsIn, Turned, outside_at}
 use Rattle.sd_session.proofs.Standing.{Quiet, stands_hears, stands_takes, stands_named, stands_fetches, stands_binds, stands_tells, stands_breaks, stands_finishes}
-use Rattle.sd_session.proofs.Ending.{Leaves, ran_hearing, ran_stopped, ran_write_fault, ran_starved}
+use Rattle.sd_session.proofs.Ending.{Leaves, same_lines, ran_hearing, ran_stopped, ran_write_fault, ran_starved}
 
 -- What a turn leaves outside: without a request in hand nothing is written or asked, with one in hand nothing is taken; the clock is not
 -- read.
@@ -92,14 +93,17 @@ same_end d e same = subst (λ (x : Dialling). HasNotFallen d.faults x.faults) (s
 same_asked : (d e : Dialling) → e ≡ d → e.operations ≡ with_operations d.operations []
 same_asked d e same = ap (λ (x : Dialling). x.operations) same ∙ nothing_more d.operations
 
-starved : (w : Company) (seed : List ℕ) (config : Config) (e f : Engine) (daemon : Daemon) (o p : Outside) (more : List Operation) → ((d : Daemon) (before : Outside) (s : Stands w seed config d before e daemon o) → AskedLast config (stand_after seed config d s.moves) more) → KeepsLeads (done e) f → p.held ≡ o.held → Quiet o p → Outer e o p → HasNotFallen o.dialling.faults p.dialling.faults
-    → p.dialling.operations ≡ with_operations o.dialling.operations more → EndsIn w seed config ends.Memory e daemon o f daemon p
-starved w seed config e f daemon o p more last keeps held quiet outer later asked = λ d before s.
-    ran_starved w seed config d before e f daemon o p more s (last d before s) keeps.leads keeps.ticket (leaves_by e o p held outer) quiet.left later asked
+same_received : (d e : Dialling) → e ≡ d → e.received ≡ with_lines d.received []
+same_received d e same = ap (λ (x : Dialling). x.received) same ∙ same_lines d.received
+
+starved : (w : Company) (seed : List ℕ) (config : Config) (e f : Engine) (daemon : Daemon) (o p : Outside) (more : List Operation) (lines : List (List ℕ)) → ((d : Daemon) (before : Outside) (s : Stands w seed config d before e daemon o) → AskedLast config (stand_after seed config d s.moves) more lines) → KeepsLeads (done e) f → p.held ≡ o.held → Quiet o p → Outer e o p → HasNotFallen o.dialling.faults p.dialling.faults
+    → p.dialling.operations ≡ with_operations o.dialling.operations more → p.dialling.received ≡ with_lines o.dialling.received lines → EndsIn w seed config ends.Memory e daemon o f daemon p
+starved w seed config e f daemon o p more lines last keeps held quiet outer later asked received = λ d before s.
+    ran_starved w seed config d before e f daemon o p more lines s (last d before s) keeps.leads keeps.ticket (leaves_by e o p held outer) quiet.left later asked received
 
 starved_idle : (w : Company) (seed : List ℕ) (config : Config) (e f : Engine) (daemon : Daemon) (o p : Outside) → KeepsLeads (done e) f → p.held ≡ o.held → p.dialling ≡ o.dialling → Quiet o p → Outer e o p → EndsIn w seed config ends.Memory e daemon o f daemon p
 starved_idle w seed config e f daemon o p keeps held dialling quiet outer =
-    starved w seed config e f daemon o p [] (λ d before s. inl refl) keeps held quiet outer (same_end o.dialling p.dialling dialling) (same_asked o.dialling p.dialling dialling)
+    starved w seed config e f daemon o p [] [] (λ d before s. inl (refl, refl)) keeps held quiet outer (same_end o.dialling p.dialling dialling) (same_asked o.dialling p.dialling dialling) (same_received o.dialling p.dialling dialling)
 
 ended_by : (w : Company) (seed : List ℕ) (config : Config) (ending : SessionEnd) (e f : Engine) (daemon : Daemon) (o p : Outside) (c : Client) (need : Need) → e.client ≡ Some c → need_of c ≡ need
     → ServesBy config.pwfield config (Ended ending) need (done e) c f o.held p.held (Rose o.writes p.writes) o.dialling p.dialling → Quiet o p → Outer e o p → EndsIn w seed config ending e daemon o f daemon p
@@ -107,11 +111,11 @@ ended_by w seed config ends.Memory e f daemon o p c (needs.Say said) is n h quie
 ended_by w seed config ends.Memory e f daemon o p c (needs.Step event) is n h quiet outer = starved_idle w seed config e f daemon o p h.0.0 h.1 h.0.1 quiet outer
 ended_by w seed config ends.Memory e f daemon o p c (needs.Await ticket) is n h quiet outer = starved_idle w seed config e f daemon o p h.0.0 h.1 h.0.1 quiet outer
 ended_by w seed config ends.Memory e f daemon o p c (needs.Fetch server key) is n h quiet outer =
-    starved w seed config e f daemon o p h.0.1.asked.operations
-    (λ d before s. inr (inl (record { client = c; in_hand = sym s.hand.client ∙ is; server = server; key = key; needed = n; asked = h.0.1.asked.are }))) h.0.0 h.1 quiet outer h.0.1.later h.0.1.asked.told
+    starved w seed config e f daemon o p h.0.1.asked.operations h.0.1.asked.lines
+    (λ d before s. inr (inl (record { client = c; in_hand = sym s.hand.client ∙ is; server = server; key = key; needed = n; asked = h.0.1.asked.are }))) h.0.0 h.1 quiet outer h.0.1.later h.0.1.asked.told h.0.1.asked.received
 ended_by w seed config ends.Memory e f daemon o p c (needs.Bind server dn password) is n h quiet outer =
-    starved w seed config e f daemon o p h.0.1.asked.operations
-    (λ d before s. inr (inr (record { client = c; in_hand = sym s.hand.client ∙ is; server = server; dn = dn; password = password; needed = n; asked = h.0.1.asked.are }))) h.0.0 h.1 quiet outer h.0.1.later h.0.1.asked.told
+    starved w seed config e f daemon o p h.0.1.asked.operations h.0.1.asked.lines
+    (λ d before s. inr (inr (record { client = c; in_hand = sym s.hand.client ∙ is; server = server; dn = dn; password = password; needed = n; asked = h.0.1.asked.are }))) h.0.0 h.1 quiet outer h.0.1.later h.0.1.asked.told h.0.1.asked.received
 ended_by w seed config ends.Memory e f daemon o p c needs.End is n h quiet outer = absurd h.0.0
 ended_by w seed config ends.Stopped e f daemon o p c needs.End is n h quiet outer = λ d before s.
     let t = stands_finishes w seed config d before e f daemon o p c s is n h.0.0.1 h.0.0.2 quiet h.1 outer.writes h.0.1 in
@@ -308,11 +312,11 @@ some_is : (e : Engine) (c : Client) → e.client ≡ Some c → IsSome e.client
 some_is e c is = ap is_some is
 
 -- what a turn leaves outside, by what it says of the objects that it works on
-pub outer_by : {S W D : Type 0} (left : S → Option (List ℕ)) (reads : S → ℕ) (held : W → Option (List ℕ)) (writes : W → ℕ) (operations : D → Option (List Operation)) (faults : D → ℕ) (behind : D → ℕ → Option Behind)
+pub outer_by : {S W D : Type 0} (left : S → Option (List ℕ)) (reads : S → ℕ) (held : W → Option (List ℕ)) (writes : W → ℕ) (operations : D → Option (List Operation)) (received : D → Option (List (List ℕ))) (faults : D → ℕ) (behind : D → ℕ → Option Behind)
     (e : Engine) (s s' : S) (w w' : W) (d d' : D) (trace : Trace) → (e.client ≡ None → (w' ≡ w) × (d' ≡ d)) → (IsSome e.client → s' ≡ s) → reads s ≤ reads s' → writes w ≤ writes w'
-    → Outer e (outside_at (left s) (held w) trace (reads s) (writes w) (record { operations = operations d; faults = faults d; behind = behind d }))
-    (outside_at (left s') (held w') trace (reads s') (writes w') (record { operations = operations d'; faults = faults d'; behind = behind d' }))
-outer_by {S} {W} {D} left reads held writes operations faults behind e s s' w w' d d' trace mute deaf reads_later writes_later = record {
+    → Outer e (outside_at (left s) (held w) trace (reads s) (writes w) (record { operations = operations d; received = received d; faults = faults d; behind = behind d }))
+    (outside_at (left s') (held w') trace (reads s') (writes w') (record { operations = operations d'; received = received d'; faults = faults d'; behind = behind d' }))
+outer_by {S} {W} {D} left reads held writes operations received faults behind e s s' w w' d d' trace mute deaf reads_later writes_later = record {
   mute = λ none. (ap held (mute none).0, ap told (mute none).1);
   deaf = λ c is. (ap left (deaf (some_is e c is)), ap reads (deaf (some_is e c is)));
   trace = refl;
@@ -321,4 +325,4 @@ outer_by {S} {W} {D} left reads held writes operations faults behind e s s' w w'
 }
   where
     told : D → Dialling
-    told x = record { operations = operations x; faults = faults x; behind = behind x }
+    told x = record { operations = operations x; received = received x; faults = faults x; behind = behind x }

@@ -15,6 +15,7 @@ use Rattle.sd_rules.specs.declared.tasks.Fetched.TheVariants as fetches
 use Rattle.sd_rules.specs.declared.tasks.Need.TheVariants as needs
 use Rattle.sd_inquiry.specs.Binds.{BindOperations}
 use Rattle.sd_inquiry.specs.Lookups.{LookupOperations, with_operations}
+use Rattle.sd_inquiry.specs.Received.{with_lines}
 use Rattle.sd_wire.specs.Frames.{IsCut, IsBad}
 use Rattle.sd_rules.specs.Scripts.{is_need_of_kind, key_at}
 use Rattle.sd_course.specs.Courses.{Client, need_of, event_of, script_at}
@@ -64,9 +65,10 @@ pub record IsWrittenTo (s : Stand) (engine : Engine) (before now : Outside) : Ty
   pub failed : s.broken ≡ true → Rose before.writes now.writes
   pub writes : before.writes ≤ now.writes
 
--- the operations asked, and the falls counted; the directories stay
+-- the operations asked, the bytes received on each line, and the falls counted; the directories stay
 pub record IsAskedTo (s : Stand) (before now : Dialling) : Type 0 where
   pub operations : now.operations ≡ with_operations before.operations s.operations
+  pub received : now.received ≡ with_lines before.received s.received
   pub behind : (i : ℕ) → now.behind i ≡ before.behind i
   pub falls : CountsFalls before.faults s.falls now.faults
   pub later : HasNotFallen before.faults now.faults
@@ -155,38 +157,45 @@ EndsAs w (ends.Long count) s before now = (s.client ≡ None) × (s.broken ≡ f
 EndsAs w (ends.JournalFull count) s before now = IsFullFor w count s × TookMore s before now
 EndsAs w ends.Memory s before now = TookMore s before now
 
--- the operations of the lookup that the request in hand needed, for which memory was wanting
-pub record LookedLast (config : Config) (s : Stand) (more : List Operation) : Type 0 where
+-- the operations, and the bytes received, of the lookup that the request in hand needed, for which memory was wanting
+pub record LookedLast (config : Config) (s : Stand) (more : List Operation) (lines : List (List ℕ)) : Type 0 where
   pub client : Client
   pub in_hand : s.client ≡ Some client
   pub server : ℕ
   pub key : Key
   pub needed : need_of client ≡ needs.Fetch server key
-  pub asked : LookupOperations config key server fetches.Memory more
+  pub asked : LookupOperations config key server fetches.Memory more lines
 
 -- the same of a bind
-pub record BoundLast (s : Stand) (more : List Operation) : Type 0 where
+pub record BoundLast (s : Stand) (more : List Operation) (lines : List (List ℕ)) : Type 0 where
   pub client : Client
   pub in_hand : s.client ≡ Some client
   pub server : ℕ
   pub dn : List ℕ
   pub password : List ℕ
   pub needed : need_of client ≡ needs.Bind server dn password
-  pub asked : BindOperations dn password server bounds.Memory more
+  pub asked : BindOperations dn password server bounds.Memory more lines
 
-abbrev pub AskedLast : Config → Stand → List Operation → Type 0
-AskedLast config s more = (more ≡ []) ⊎ (LookedLast config s more ⊎ BoundLast s more)
+abbrev pub AskedLast : Config → Stand → List Operation → List (List ℕ) → Type 0
+AskedLast config s more lines = ((more ≡ []) × (lines ≡ [])) ⊎ (LookedLast config s more lines ⊎ BoundLast s more lines)
 
 -- what a lookup or a bind asked for which memory was then wanting
 pub record AskedMore (config : Config) (s : Stand) (before now : Outside) : Type 0 where
   pub more : List Operation
-  pub last : AskedLast config s more
+  pub lines : List (List ℕ)
+  pub last : AskedLast config s more lines
   pub told : now.dialling.operations ≡ with_operations before.dialling.operations (s.operations ++ more)
+  pub received : now.dialling.received ≡ with_lines before.dialling.received (s.received ++ lines)
 
--- The operations asked are those of the moves; where memory was wanting, the last lookup or bind is no move.
+-- all that was asked and received is of the moves
+pub record AskedAll (s : Stand) (before now : Dialling) : Type 0 where
+  pub operations : now.operations ≡ with_operations before.operations s.operations
+  pub received : now.received ≡ with_lines before.received s.received
+
+-- The operations asked, and the bytes received, are those of the moves; where memory was wanting, the last lookup or bind is no move.
 abbrev pub Asked : Config → SessionEnd → Stand → Outside → Outside → Type 0
 Asked config ends.Memory s before now = AskedMore config s before now
-Asked config _ s before now = now.dialling.operations ≡ with_operations before.dialling.operations s.operations
+Asked config _ s before now = AskedAll s before.dialling now.dialling
 
 -- a session from the daemon d on: its moves, and why it ended there
 pub record Ran (w : Company) (seed : List ℕ) (config : Config) (d : Daemon) (before : Outside) (ending : SessionEnd) (daemon : Daemon) (now : Outside) : Type 0 where

@@ -100,7 +100,7 @@ fn turn<R: Wait, S: Source, W: Sink, D: Dialer, C: Clock, G: Gate>(
     ensures own { IsOwn desk.now seat.new }
     ensures free { HoldsNoTurn seat.new }
     ensures same { IsSameSeat seat.old seat.new }
-    ensures turned { running.Turned desks.at_desk salts.now config.now result engine.old (front desk.now seat.old) (running.outside_at (S.left source.old) (W.held sink.old) (desks.trace_at (C.readings clock.old) seat.old) (S.faults source.old) (W.faults sink.old) (record { operations = D.operations dialer.old; faults = D.faults dialer.old; behind = D.behind dialer.old })) engine.new (front desk.now seat.new) (running.outside_at (S.left source.new) (W.held sink.new) (desks.trace_at (C.readings clock.new) seat.new) (S.faults source.new) (W.faults sink.new) (record { operations = D.operations dialer.new; faults = D.faults dialer.new; behind = D.behind dialer.new })) }
+    ensures turned { running.Turned desks.at_desk salts.now config.now result engine.old (front desk.now seat.old) (running.outside_at (S.left source.old) (W.held sink.old) (desks.trace_at (C.readings clock.old) seat.old) (S.faults source.old) (W.faults sink.old) (record { operations = D.operations dialer.old; received = D.received dialer.old; faults = D.faults dialer.old; behind = D.behind dialer.old })) engine.new (front desk.now seat.new) (running.outside_at (S.left source.new) (W.held sink.new) (desks.trace_at (C.readings clock.new) seat.new) (S.faults source.new) (W.faults sink.new) (record { operations = D.operations dialer.new; received = D.received dialer.new; faults = D.faults dialer.new; behind = D.behind dialer.new })) }
 {
     match engine.turn(config, salts, source, sink, dialer, gate) {
         Turn::Again => None,
@@ -130,7 +130,7 @@ fn run<R: Wait, S: Source, W: Sink, D: Dialer, C: Clock, G: Gate>(
     ensures own { IsOwn desk.now seat.new }
     ensures free { HoldsNoTurn seat.new }
     ensures same { IsSameSeat seat.old seat.new }
-    ensures ran { running.RanTo desks.at_desk salts.now config.now (front desk.now seat.old) (running.outside_at (S.left source.old) (W.held sink.old) (desks.trace_at (C.readings clock.old) seat.old) (S.faults source.old) (W.faults sink.old) (record { operations = D.operations dialer.old; faults = D.faults dialer.old; behind = D.behind dialer.old })) result engine.new (front desk.now seat.new) (running.outside_at (S.left source.new) (W.held sink.new) (desks.trace_at (C.readings clock.new) seat.new) (S.faults source.new) (W.faults sink.new) (record { operations = D.operations dialer.new; faults = D.faults dialer.new; behind = D.behind dialer.new })) }
+    ensures ran { running.RanTo desks.at_desk salts.now config.now (front desk.now seat.old) (running.outside_at (S.left source.old) (W.held sink.old) (desks.trace_at (C.readings clock.old) seat.old) (S.faults source.old) (W.faults sink.old) (record { operations = D.operations dialer.old; received = D.received dialer.old; faults = D.faults dialer.old; behind = D.behind dialer.old })) result engine.new (front desk.now seat.new) (running.outside_at (S.left source.new) (W.held sink.new) (desks.trace_at (C.readings clock.new) seat.new) (S.faults source.new) (W.faults sink.new) (record { operations = D.operations dialer.new; received = D.received dialer.new; faults = D.faults dialer.new; behind = D.behind dialer.new })) }
 {
     for round in 0..u64::MAX {
         forget_where_grown(rt, desk, seat);
@@ -188,7 +188,7 @@ pub fn session<R: Wait, S: Source, W: Sink, D: Dialer, C: Clock, G: Gate>(
     ensures own { IsOwn desk.now result.0 }
     ensures free { HoldsNoTurn result.0 }
     ensures same { IsSameSeat seat result.0 }
-    ensures session { withdrawing.Session desks.at_desk (salts_of desk.now) (config_of desk.now) (front desk.now seat) (running.outside_at (S.left source.old) (W.held sink.old) (desks.trace_at (C.readings clock.old) seat) (S.faults source.old) (W.faults sink.old) (record { operations = D.operations dialer.old; faults = D.faults dialer.old; behind = D.behind dialer.old })) result.1 (front desk.now result.0) (running.outside_at (S.left source.new) (W.held sink.new) (desks.trace_at (C.readings clock.new) result.0) (S.faults source.new) (W.faults sink.new) (record { operations = D.operations dialer.new; faults = D.faults dialer.new; behind = D.behind dialer.new })) }
+    ensures session { withdrawing.Session desks.at_desk (salts_of desk.now) (config_of desk.now) (front desk.now seat) (running.outside_at (S.left source.old) (W.held sink.old) (desks.trace_at (C.readings clock.old) seat) (S.faults source.old) (W.faults sink.old) (record { operations = D.operations dialer.old; received = D.received dialer.old; faults = D.faults dialer.old; behind = D.behind dialer.old })) result.1 (front desk.now result.0) (running.outside_at (S.left source.new) (W.held sink.new) (desks.trace_at (C.readings clock.new) result.0) (S.faults source.new) (W.faults sink.new) (record { operations = D.operations dialer.new; received = D.received dialer.new; faults = D.faults dialer.new; behind = D.behind dialer.new })) }
     // The journal handed back is one that the journal handed in became.
     ensures reaches { Reaches (front desk.now seat) (front desk.now result.0) }
 {

@@ -67,7 +67,7 @@ fn turn<S: Source, W: Sink, D: Dialer, C: Clock>(
     clock: &mut C,
 ) -> Option<SessionEnd>
     requires { ForSome engine.old.client (λ client. IsSpoken core.old client.course) }
-    ensures turned { running.Turned sessions.alone salts.now config.now result engine.old core.old (running.outside_at (S.left source.old) (W.held sink.old) (sessions.trace_of (C.readings clock.old) core.old) (S.faults source.old) (W.faults sink.old) (record { operations = D.operations dialer.old; faults = D.faults dialer.old; behind = D.behind dialer.old })) engine.new core.new (running.outside_at (S.left source.new) (W.held sink.new) (sessions.trace_of (C.readings clock.new) core.new) (S.faults source.new) (W.faults sink.new) (record { operations = D.operations dialer.new; faults = D.faults dialer.new; behind = D.behind dialer.new })) }
+    ensures turned { running.Turned sessions.alone salts.now config.now result engine.old core.old (running.outside_at (S.left source.old) (W.held sink.old) (sessions.trace_of (C.readings clock.old) core.old) (S.faults source.old) (W.faults sink.old) (record { operations = D.operations dialer.old; received = D.received dialer.old; faults = D.faults dialer.old; behind = D.behind dialer.old })) engine.new core.new (running.outside_at (S.left source.new) (W.held sink.new) (sessions.trace_of (C.readings clock.new) core.new) (S.faults source.new) (W.faults sink.new) (record { operations = D.operations dialer.new; received = D.received dialer.new; faults = D.faults dialer.new; behind = D.behind dialer.new })) }
     ensures grown { growth.KeepsGrown core.old core.new }
 {
     match engine.turn(config, salts, source, sink, dialer, &OpenGate) {
@@ -90,7 +90,7 @@ fn run<S: Source, W: Sink, D: Dialer, C: Clock>(
     clock: &mut C,
 ) -> SessionEnd
     requires { engine.old ≡ engines.begun }
-    ensures ran { running.RanTo sessions.alone salts.now config.now core.old (running.outside_at (S.left source.old) (W.held sink.old) (sessions.trace_of (C.readings clock.old) core.old) (S.faults source.old) (W.faults sink.old) (record { operations = D.operations dialer.old; faults = D.faults dialer.old; behind = D.behind dialer.old })) result engine.new core.new (running.outside_at (S.left source.new) (W.held sink.new) (sessions.trace_of (C.readings clock.new) core.new) (S.faults source.new) (W.faults sink.new) (record { operations = D.operations dialer.new; faults = D.faults dialer.new; behind = D.behind dialer.new })) }
+    ensures ran { running.RanTo sessions.alone salts.now config.now core.old (running.outside_at (S.left source.old) (W.held sink.old) (sessions.trace_of (C.readings clock.old) core.old) (S.faults source.old) (W.faults sink.old) (record { operations = D.operations dialer.old; received = D.received dialer.old; faults = D.faults dialer.old; behind = D.behind dialer.old })) result engine.new core.new (running.outside_at (S.left source.new) (W.held sink.new) (sessions.trace_of (C.readings clock.new) core.new) (S.faults source.new) (W.faults sink.new) (record { operations = D.operations dialer.new; received = D.received dialer.new; faults = D.faults dialer.new; behind = D.behind dialer.new })) }
     ensures grown { growth.KeepsGrown core.old core.new }
 {
     for round in 0..u64::MAX {
@@ -128,7 +128,7 @@ pub fn solo_session<S: Source, W: Sink, D: Dialer, C: Clock>(
     dialer: &mut D,
     clock: &mut C,
 ) -> SessionEnd
-    ensures session { withdrawing.Session sessions.alone salts.now config.now core.old (running.outside_at (S.left source.old) (W.held sink.old) (sessions.trace_of (C.readings clock.old) core.old) (S.faults source.old) (W.faults sink.old) (record { operations = D.operations dialer.old; faults = D.faults dialer.old; behind = D.behind dialer.old })) result core.new (running.outside_at (S.left source.new) (W.held sink.new) (sessions.trace_of (C.readings clock.new) core.new) (S.faults source.new) (W.faults sink.new) (record { operations = D.operations dialer.new; faults = D.faults dialer.new; behind = D.behind dialer.new })) }
+    ensures session { withdrawing.Session sessions.alone salts.now config.now core.old (running.outside_at (S.left source.old) (W.held sink.old) (sessions.trace_of (C.readings clock.old) core.old) (S.faults source.old) (W.faults sink.old) (record { operations = D.operations dialer.old; received = D.received dialer.old; faults = D.faults dialer.old; behind = D.behind dialer.old })) result core.new (running.outside_at (S.left source.new) (W.held sink.new) (sessions.trace_of (C.readings clock.new) core.new) (S.faults source.new) (W.faults sink.new) (record { operations = D.operations dialer.new; received = D.received dialer.new; faults = D.faults dialer.new; behind = D.behind dialer.new })) }
     // The new journal is the old one, followed by entries that each have the number, the moment and the reply that the rules give.
     ensures journal { growth.IsGrown core.old core.new }
 {

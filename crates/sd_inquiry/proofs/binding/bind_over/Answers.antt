@@ -1,16 +1,23 @@
-use Rattle.sd_inquiry.proofs.Asking.{bind_asks, unbinds_by, bind_fallen, bind_later, fresh_settled, told_bound}
+use Rattle.sd_inquiry.proofs.Receiving.{grew_nothing}
+use Rattle.sd_inquiry.proofs.Asking.{bind_asks, bind_grew, unbinds_by, bind_fallen, bind_later, fresh_settled, told_bound}
 use Rattle.sd_inquiry.proofs.binding.bind_over.Goals as goal
 
 pub returns-clause-asks : goal.returns-clause-asks
 returns-clause-asks g c =
-    bind_asks g.L.DirectoryLink.asked c.args.dn.now c.args.password.now c.bind-bound.result _ c.new-client.result c.bind-bound.new.client c.args.line c.end.result c.new-client.ensures
+    bind_asks g.L.DirectoryLink.asked g.L.Link.received c.args.dn.now c.args.password.now c.bind-bound.result _ _ c.new-client.result c.bind-bound.new.client c.args.line c.end.result c.new-client.ensures
     (record {
       used = c.bind-bound.ensures.used;
       unsent = λ same. (c.bind-bound.ensures.unsent same).asked;
       no_reply = c.bind-bound.ensures.no_reply;
       sent = λ more. (c.bind-bound.ensures.sent more).asked;
+      reply = c.bind-bound.ensures.reply;
+      grew =
+          bind_grew _ _ _ _ _ _ c.bind-bound.ensures.used
+          (λ same. let u = c.bind-bound.ensures.unsent same in grew_nothing _ _ _ _ u.held u.received)
+          (λ more. let came = (c.bind-bound.ensures.sent more).came in record { bytes = _; grown = came.grown; told = came.received });
     })
     (unbinds_by g.L.DirectoryLink.asked c.bind-bound.new.client c.end.result _ _ _ c.end.ensures.failed c.end.ensures.unbinds)
+    c.end.ensures.received
 
 pub returns-clause-fallen : goal.returns-clause-fallen
 returns-clause-fallen g c = λ is. bind_fallen g.L.Link.faults c.new-client.result c.args.line _ _ _ _ c.new-client.ensures c.end.ensures.later c.bind-bound.ensures.cause is

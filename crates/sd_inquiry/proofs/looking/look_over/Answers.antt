@@ -3,7 +3,7 @@ use Rattle.sd_inquiry.proofs.looking.look_over.Goals as goal
 
 pub returns-clause-asks : goal.returns-clause-asks
 returns-clause-asks g c =
-    looks_over _ _ _ _ _ _ _ _ c.new-client.ensures c.fetch-fetched.ensures.looked (unbinds_by g.L.DirectoryLink.asked c.fetch-fetched.new.client c.end.result _ _ _ c.end.ensures.failed c.end.ensures.unbinds)
+    looks_over _ _ _ _ _ _ _ _ c.new-client.ensures c.fetch-fetched.ensures.looked (unbinds_by g.L.DirectoryLink.asked c.fetch-fetched.new.client c.end.result _ _ _ c.end.ensures.failed c.end.ensures.unbinds) c.end.ensures.received
 
 pub returns-clause-fallen : goal.returns-clause-fallen
 returns-clause-fallen g c = λ is. looked_fallen _ _ _ _ _ _ _ _ c.new-client.ensures c.fetch-fetched.ensures.looked c.end.ensures.later is

@@ -12,8 +12,8 @@ invariant-loop-round g l = record {
   stands :
       Stands at_desk l.salts l.config (front l.desk l.fn.seat)
       (outside_at (g.S.Source.left l.fn.source) (g.W.Sink.held l.fn.sink) (trace_at (g.C.Clock.readings l.fn.clock) l.fn.seat) (g.S.Source.faults l.fn.source) (g.W.Sink.faults l.fn.sink)
-      (record { operations = g.D.Dialer.operations l.fn.dialer; faults = g.D.Dialer.faults l.fn.dialer; behind = g.D.Dialer.behind l.fn.dialer }))
+      (record { operations = g.D.Dialer.operations l.fn.dialer; received = g.D.Dialer.received l.fn.dialer; faults = g.D.Dialer.faults l.fn.dialer; behind = g.D.Dialer.behind l.fn.dialer }))
       l.engine (front l.desk l.seat)
       (outside_at (g.S.Source.left l.source) (g.W.Sink.held l.sink) (trace_at (g.C.Clock.readings l.clock) l.seat) (g.S.Source.faults l.source) (g.W.Sink.faults l.sink)
-      (record { operations = g.D.Dialer.operations l.dialer; faults = g.D.Dialer.faults l.dialer; behind = g.D.Dialer.behind l.dialer }));
+      (record { operations = g.D.Dialer.operations l.dialer; received = g.D.Dialer.received l.dialer; faults = g.D.Dialer.faults l.dialer; behind = g.D.Dialer.behind l.dialer }));
 }
