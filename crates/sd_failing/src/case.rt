@@ -122,6 +122,7 @@ impl Case {
             b"cut" => self.add_cuts(number_in(rest))?,
             b"byte" => self.add_byte(rest)?,
             b"none" => self.runs.push(Trouble::Nothing)?,
+            b"others" => self.runs.push(Trouble::Others)?,
             _ => {}
         }
         Ok(())

@@ -62,8 +62,7 @@ impl<'d> NotedLine<'d> {
         };
         self.asked.extend_from_slice(word)?;
         self.coming.extend_from_slice(answer.as_slice())?;
-        self.trouble.spoil(&mut self.coming);
-        Ok(())
+        self.trouble.spoil(&mut self.coming)
     }
 }
 
@@ -95,6 +94,9 @@ impl<'d> Link for NotedLine<'d> {
 
     fn receive(&mut self, buf: &mut [u8]) -> Result<usize, LinkFailed> {
         self.calls.receives = self.calls.receives.saturating_add(1);
+        if self.trouble.is_endless() && self.at >= self.coming.len() {
+            self.at = 0;
+        }
         let at = self.at.min(self.coming.len());
         let rest = &self.coming[at..];
         if self.trouble.fails(Call::Receive, self.calls.receives) || rest.is_empty() {

@@ -10,6 +10,7 @@
 //   from CALL N     N runs: all calls from the first on fail, from the second on, and so on
 //   cut N           N runs: each line ends before its first byte, behind the first, and so on to N - 1
 //   byte PLACE N    a run: the byte at this place of each answer, counted from 0, is N
+//   others          a run: in place of each answer messages of another id come, without end
 //   none            a run in which nothing fails
 //
 // For each run stand: its name; what the client was told, a line for each reply, and the digits of what is no whole reply; how the

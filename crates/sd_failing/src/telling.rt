@@ -30,6 +30,7 @@ fn name_of(alloc: Global, trouble: Trouble) -> Result<String, Memory> {
         }
         Trouble::Cut(length) => format!(in alloc; "cut behind {length}")?,
         Trouble::Byte(place, byte) => format!(in alloc; "byte {place} is {byte}")?,
+        Trouble::Others => String::from_str(alloc, "messages of another id without end")?,
     })
 }
 

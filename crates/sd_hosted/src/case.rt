@@ -34,6 +34,8 @@ pub struct Case {
     pub blobs: Blobs,
     pub failing_store: Numbers,
     pub failing_door: Numbers,
+    /// What each clock says, the last of them from then on.
+    pub moments: Numbers,
     /// What each client sends.
     pub clients: Vec<Vec<u8>>,
     pub is_silent: bool,
@@ -69,6 +71,7 @@ impl Case {
             blobs: Blobs::new(alloc),
             failing_store: Numbers::new(alloc),
             failing_door: Numbers::new(alloc),
+            moments: Numbers::new(alloc),
             clients: Vec::new(alloc),
             is_silent: false,
         })
@@ -111,6 +114,7 @@ impl Case {
             b"store" => self.store = StoreWord::Own,
             b"blob" => self.add_blob(alloc, rest)?,
             b"fail" => self.fail(rest)?,
+            b"moment" => self.moments.push(number(rest))?,
             b"client" => self.clients.push(Vec::new(alloc))?,
             b"ask" => self.ask(alloc, rest)?,
             b"silent" => self.is_silent = true,

@@ -17,12 +17,21 @@ use std::collections::VecDeque;
 use std::mem;
 use std::sync::Wait;
 
-/// What each session is made with: servers of one directory, and a clock that stands at 0.
+/// What each session is made with: servers of one directory, and a clock of its own.
 #[derive(Drop)]
 pub struct WorkedTools<'a> {
     alloc: Global,
     directory: &'a Directory,
     mode: Mode,
+    moments: Numbers,
+}
+
+fn moments_of(alloc: Global, numbers: &Numbers) -> Result<Vec<u64>, Memory> {
+    let mut moments = Vec::new(alloc);
+    for number in numbers.items() {
+        moments.push(u64::from(*number))?;
+    }
+    Ok(moments)
 }
 
 impl<'a> Equipment for WorkedTools<'a> {
@@ -44,8 +53,12 @@ impl<'a> Equipment for WorkedTools<'a> {
         Ok(StubDialer::new(self.alloc, servers, dials, calls))
     }
 
+    /// A clock that stands at 0 where no memory is left for another.
     fn clock(&mut self) -> MemoryClock {
-        MemoryClock::new(Vec::new(self.alloc))
+        match moments_of(self.alloc, &self.moments) {
+            Ok(moments) => MemoryClock::new(moments),
+            Err(Memory) => MemoryClock::new(Vec::new(self.alloc)),
+        }
     }
 
     fn gate(&mut self) -> OpenGate {
@@ -86,6 +99,7 @@ pub struct WorkedHost<'a, R> {
     pub mode: Mode,
     pub coming: VecDeque<Coming<'a>>,
     pub failing_door: Numbers,
+    pub moments: Numbers,
     /// What the store has; what it has at the end, once the keeper was handed back.
     pub blobs: Blobs,
     pub failing_store: Numbers,
@@ -163,6 +177,7 @@ impl<'a, R: Wait + Sync> Host for WorkedHost<'a, R> {
             alloc: self.alloc,
             directory: self.directory,
             mode: self.mode,
+            moments: mem::replace(&mut self.moments, Numbers::new(self.alloc)),
         }
     }
 

@@ -6,6 +6,7 @@
 //   store           it is given an empty store, `store again` what the daemon before left
 //   blob HEX        these octets stand in its store, behind others
 //   fail store N    the N-th call on its store fails, counted from 1; so does the N-th accept of `fail door N`
+//   moment N        what each clock says first, and so on, a line for each reading; the last of them from then on
 //   client          a client comes; `ask REQUEST` is what the last client asks, in the words of `query`
 //   silent          what clients are told is not printed, only whether all were told the same
 //

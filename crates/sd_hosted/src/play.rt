@@ -200,6 +200,7 @@ impl<'r, R: Threads + Wait + Sync> Player<'r, R> {
             mode: if case.is_down { Mode::Down } else { Mode::Up },
             coming: coming_of(alloc, case.clients, lists)?,
             failing_door: case.failing_door,
+            moments: case.moments,
             blobs,
             failing_store: case.failing_store,
             kept: None,
