@@ -40,7 +40,8 @@ fn attributes_room(attributes: &[Attribute]) -> u64
     room
 }
 
-fn is_short(entry: &DirEntry) -> bool
+/// Whether an entry takes less than 4 GiB in a message, whatever is asked of it.
+pub fn is_short(entry: &DirEntry) -> bool
     ensures { result ≡ nat_lt (entry_room entry.now + 64) (2 ^ 32) }
 {
     let room = text_room(&entry.dn)
@@ -49,7 +50,7 @@ fn is_short(entry: &DirEntry) -> bool
     room < (1 << 32) - 64
 }
 
-/// Whether each entry takes less than 4 GiB in a message, whatever is asked of it.
+/// Whether each entry does.
 pub fn are_short(entries: &[DirEntry]) -> bool
     ensures { result ≡ list_all (λ e. nat_lt (entry_room e + 64) (2 ^ 32)) entries.now }
 {
