@@ -1,6 +1,6 @@
 -- The entries that a directory keeps have DNs of their own.
-use Rattle.std.proofs.Common.{◌≡◌, ℕ, Bool, true, false, List, [], ◌∷◌, Option, Some, None, refl, sym, ◌∙◌, inl, inr}
-use Rattle.std.specs.Prelude.{◌||◌, fold}
+use Rattle.std.proofs.Common.{◌≡◌, ℕ, Bool, true, false, List, [], ◌∷◌, Option, Some, None, refl, sym, ◌∙◌, subst, inl, inr}
+use Rattle.std.specs.Prelude.{◌||◌, fold, filter, not}
 use Rattle.std.specs.List.{list_any}
 use Rattle.std.specs.Char.{to_ascii_lowercase, eq_ignore_ascii_case}
 use Rattle.std.proofs.lemmas.Bool.{cases_Bool, and_from, and_parts, not-true, not_from_false, eq-eqb, eqb-true}
@@ -8,7 +8,7 @@ use Rattle.sd_dn.specs.declared.Pair.{Pair}
 use Rattle.sd_dn.specs.Comparing.{same_list, same_text, same_pair, same_rdn, same_dn}
 use Rattle.sd_dn.specs.Texts.{spelled, both_meet, same_dn_text}
 use Rattle.sd_ldap.specs.declared.entry.DirEntry.{DirEntry}
-use Rattle.sd_stub.specs.Keeping.{put, kept}
+use Rattle.sd_stub.specs.Keeping.{put, removed, kept}
 use Rattle.sd_stub_link.specs.Distinct.{is_own_dn, have_own_dns}
 
 -- ---- what equals one DN equals each that it equals
@@ -78,7 +78,7 @@ none_for k e (r ∷ rest) same none =
       | inr other ↦ both_not (same_dn_text e.dn r.dn) (is_among e rest) other (none_for k e rest same p.1)
     ]
 
-own_put : (es : List DirEntry) (e : DirEntry) → have_own_dns es ≡ true → have_own_dns (put es e) ≡ true
+pub own_put : (es : List DirEntry) (e : DirEntry) → have_own_dns es ≡ true → have_own_dns (put es e) ≡ true
 unfolding have_own_dns
 own_put [] e own = refl
 own_put (k ∷ rest) e own =
@@ -99,3 +99,31 @@ none_own = refl
 
 pub own_kept : (es : List DirEntry) → have_own_dns (kept es) ≡ true
 own_kept es = own_all [] es none_own
+
+pub own_next : (es new : List DirEntry) (e : DirEntry) → new ≡ put es e → have_own_dns es ≡ true → have_own_dns new ≡ true
+own_next es new e made own = subst (λ (xs : List DirEntry). have_own_dns xs ≡ true) (sym made) (own_put es e own)
+
+-- ---- an entry that is taken out
+
+among_fewer : (test : DirEntry → Bool) (k : DirEntry) (es : List DirEntry) → is_among k es ≡ false → is_among k (filter test es) ≡ false
+among_fewer test k [] none = refl
+among_fewer test k (e ∷ es) none =
+    let p = neither (same_dn_text k.dn e.dn) (is_among k es) none in
+    elim (cases_Bool (test e)) [
+      | inl stays ↦ rw stays (both_not (same_dn_text k.dn e.dn) (is_among k (filter test es)) p.0 (among_fewer test k es p.1))
+      | inr goes ↦ rw goes (among_fewer test k es p.1)
+    ]
+
+own_fewer : (test : DirEntry → Bool) (es : List DirEntry) → have_own_dns es ≡ true → have_own_dns (filter test es) ≡ true
+unfolding have_own_dns
+own_fewer test [] own = refl
+own_fewer test (e ∷ es) own =
+    let p = and_parts (is_own_dn e es) (have_own_dns es) own in
+    let none : is_among e es ≡ false = not-true (is_among e es) p.0 in
+    elim (cases_Bool (test e)) [
+      | inl stays ↦ rw stays (and_from (is_own_dn e (filter test es)) (have_own_dns (filter test es)) (not_from_false (is_among e (filter test es)) (among_fewer test e es none)) (own_fewer test es p.1))
+      | inr goes ↦ rw goes (own_fewer test es p.1)
+    ]
+
+pub own_left : (es new : List DirEntry) (dn : List ℕ) → new ≡ removed es dn → have_own_dns es ≡ true → have_own_dns new ≡ true
+own_left es new dn made own = subst (λ (xs : List DirEntry). have_own_dns xs ≡ true) (sym made) (own_fewer (λ (e : DirEntry). not (same_dn_text e.dn dn)) es own)

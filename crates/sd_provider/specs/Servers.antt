@@ -21,7 +21,6 @@ use Rattle.sd_fetch.specs.Lookup.{looked_up}
 use Rattle.sd_fetch.specs.Told.{searches_of, first_failure}
 use Rattle.sd_stub.specs.declared.Mode.{Mode}
 use Rattle.sd_stub.specs.declared.Mode.TheVariants as modes
-use Rattle.sd_stub.specs.Keeping.{kept}
 
 -- a directory's entries behind a framing
 abbrev pub behind_in : Framing → List DirEntry → Behind
@@ -55,10 +54,6 @@ bound_in modes.Down entries dn password = bounds.Failed whys.Link
 bound_in modes.Cut entries dn password = bounds.Failed whys.Link
 bound_in modes.Indef entries dn password = where_bind_read dn password (bounds.Failed (whys.Bytes 1))
 bound_in (modes.Code result) entries dn password = where_bind_read dn password (bounds.Code result)
-
--- of entries with equal DNs the last counts
-abbrev pub bound_at : Mode → List DirEntry → List ℕ → List ℕ → Bound
-bound_at mode entries dn password = bound_in mode (kept entries) dn password
 
 -- ---- lookups
 
@@ -96,10 +91,6 @@ fetched_in modes.Down config entries key = fetches.Failed whys.Link
 fetched_in modes.Cut config entries key = fetches.Failed whys.Link
 fetched_in modes.Indef config entries key = where_search_read 1 (first_search config key) (fetches.Failed (whys.Bytes 1))
 fetched_in (modes.Code result) config entries key = where_search_read 1 (first_search config key) (fetched_coded config key result)
-
--- of entries with equal DNs the last counts
-abbrev pub fetched_at : Mode → Config → List DirEntry → Key → Fetched
-fetched_at mode config entries key = fetched_in mode config (kept entries) key
 
 -- ---- lookups that give nothing
 

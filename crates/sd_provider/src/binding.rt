@@ -8,12 +8,11 @@ ghost use Rattle.sd_stub_link.specs.Modes.{is_down};
 ghost use Rattle.sd_stub_link.specs.Standing.{made};
 ghost use Rattle.sd_provider.specs.Servers as servers;
 
-use crate::looking::short_directory;
+use crate::keeping::ShortDirectory;
 use crate::plain::PlainLink;
 use sd_asking::{bind, decides_alone};
 use sd_base::{Memory, Text, Why};
 use sd_client::Client;
-use sd_ldap::DirEntry;
 use sd_rules::Bound;
 use sd_stub::{Directory, Mode};
 use std::alloc::Global;
@@ -65,22 +64,21 @@ fn bind_over(
     }
 }
 
-/// What a simple bind at a server of these entries comes to, asked over a link in memory. A link that finds no
-/// memory is want of memory.
+/// What a simple bind at a server of a directory comes to, asked over a link in memory. A link that finds no memory
+/// is want of memory.
 #[tactic(auto, unfolding(crate::specs::Servers::bound_in))]
 pub fn bound_at(
     alloc: Global,
     mode: Mode,
-    entries: &[DirEntry],
+    directory: &ShortDirectory,
     dn: &Text,
     password: &Text,
 ) -> Result<Bound, Memory>
-    ensures answer { IfOk result (λ bound. bound ≡ servers.bound_at mode entries.now dn.now password.now) }
+    ensures answer { IfOk result (λ bound. bound ≡ servers.bound_in mode directory.now dn.now password.now) }
     ensures memory { IfOk result (λ bound. is_bind_out_of_memory bound ≡ false) }
 {
     if mode == Mode::Down {
         return Ok(Bound::Failed(Why::Link));
     }
-    let directory = short_directory(alloc, entries)?;
-    bind_over(alloc, &directory, mode, dn, password)
+    bind_over(alloc, directory.directory(), mode, dn, password)
 }

@@ -8,5 +8,6 @@ mod plain;
 mod room;
 
 pub use binding::bound_at;
-pub use looking::{fetched_at, short_directory};
+pub use keeping::{ShortDirectory, short_directory};
+pub use looking::fetched_at;
 pub use plain::PlainLink;

@@ -4,21 +4,18 @@ ghost use Rattle.sd_base.specs.declared.Why.TheVariants as whys;
 ghost use Rattle.sd_rules.specs.Lookups.{is_fetched_of_kind};
 ghost use Rattle.sd_rules.specs.Scripts.{is_out_of_memory};
 ghost use Rattle.sd_dial.specs.Rooms.{are_short};
-ghost use Rattle.sd_stub.specs.Keeping.{kept};
 ghost use Rattle.sd_stub_link.specs.Distinct.{have_own_dns};
 ghost use Rattle.sd_stub_link.specs.Modes.{is_down};
 ghost use Rattle.sd_stub_link.specs.Standing.{made};
 ghost use Rattle.sd_provider.specs.Servers as servers;
 
-use crate::keeping::directory_of;
+use crate::keeping::ShortDirectory;
 use crate::plain::PlainLink;
-use crate::room::are_short;
 use sd_asking::decides_alone;
 use sd_base::{Memory, Why};
 use sd_client::Client;
 use sd_conf::Config;
 use sd_fetch::fetch;
-use sd_ldap::DirEntry;
 use sd_rules::{Fetched, Key, Record};
 use sd_stub::{Directory, Mode};
 use std::alloc::Global;
@@ -114,36 +111,22 @@ fn in_memory(fetched: Fetched) -> Result<Fetched, Memory>
     }
 }
 
-/// The directory of these entries, where each takes less than 4 GiB in a message; longer ones count as want of
-/// memory.
-pub fn short_directory(alloc: Global, entries: &[DirEntry]) -> Result<Directory, Memory>
-    ensures kept { IfOk result (λ directory. directory ≡ kept entries.now) }
-    ensures own { IfOk result (λ directory. have_own_dns directory ≡ true) }
-    ensures short { IfOk result (λ directory. are_short directory ≡ true) }
-{
-    if !are_short(entries) {
-        return Err(Memory);
-    }
-    directory_of(alloc, entries)
-}
-
-/// What the lookup of a key at a server of these entries comes to, asked over a link in memory. A link that finds
-/// no memory is want of memory, and so is an entry of 4 GiB.
+/// What the lookup of a key at a server of a directory comes to, asked over a link in memory. A link that finds no
+/// memory is want of memory.
 #[tactic(auto, unfolding(crate::specs::Servers::fetched_in))]
 pub fn fetched_at(
     alloc: Global,
     mode: Mode,
     config: &Config,
-    entries: &[DirEntry],
+    directory: &ShortDirectory,
     key: &Key,
 ) -> Result<Fetched, Memory>
-    ensures answer { IfOk result (λ fetched. fetched ≡ servers.fetched_at mode config.now entries.now key.now) }
+    ensures answer { IfOk result (λ fetched. fetched ≡ servers.fetched_in mode config.now directory.now key.now) }
     ensures kind { IfOk result (λ fetched. is_fetched_of_kind key.now fetched ≡ true) }
     ensures memory { IfOk result (λ fetched. is_out_of_memory fetched ≡ false) }
 {
     if mode == Mode::Down {
         return Ok(Fetched::Failed(Why::Link));
     }
-    let directory = short_directory(alloc, entries)?;
-    look_over(alloc, &directory, mode, config, key)
+    look_over(alloc, directory.directory(), mode, config, key)
 }

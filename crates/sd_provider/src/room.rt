@@ -39,7 +39,8 @@ fn attributes_room(attributes: &[Attribute]) -> u64
     room
 }
 
-fn is_short(entry: &DirEntry) -> bool
+/// Whether an entry takes less than 4 GiB in a message, whatever is asked of it.
+pub fn is_short(entry: &DirEntry) -> bool
     ensures { result ≡ is_short entry.now }
 {
     let room = text_room(&entry.dn)
@@ -48,7 +49,7 @@ fn is_short(entry: &DirEntry) -> bool
     room < (1 << 32) - 64
 }
 
-/// Whether each entry takes less than 4 GiB in a message, whatever is asked of it.
+/// Whether each entry does.
 #[tactic(auto, unfolding(sd_dial::specs::Rooms::are_short))]
 pub fn are_short(entries: &[DirEntry]) -> bool
     ensures { result ≡ are_short entries.now }

@@ -74,11 +74,11 @@ happened d now event = step d now event >>= λ s. Ok s.0
 
 -- what the lookup of a key at a server comes to
 abbrev pub fetched_at : Site → ℕ → Key → Fetched
-fetched_at s server key = servers.fetched_at (mode_of s.changes server) s.config s.entries key
+fetched_at s server key = servers.fetched_in (mode_of s.changes server) s.config s.entries key
 
 -- what a bind at a server comes to
 abbrev pub bound_at : Site → ℕ → List ℕ → List ℕ → Bound
-bound_at s server dn password = servers.bound_at (mode_of s.changes server) s.entries dn password
+bound_at s server dn password = servers.bound_in (mode_of s.changes server) s.entries dn password
 
 -- what needs no event is done at once, with the client and what was printed: a server is asked, an answer is printed
 abbrev pub settled_by : Site → ℕ → Client × List ℕ → Need → Client × List ℕ

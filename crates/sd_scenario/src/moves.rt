@@ -8,7 +8,7 @@ ghost use Rattle.sd_rules.specs.Steps as steps;
 ghost use Rattle.sd_core.specs.Sound.{found_fits};
 ghost use Rattle.sd_scenario.specs.Clients as clients;
 ghost use Rattle.sd_scenario.specs.Courses as courses;
-ghost use Rattle.sd_directory.specs.Keeping as keeping;
+ghost use Rattle.sd_stub.specs.Keeping as keeping;
 ghost use Rattle.sd_scenario.specs.Past.{IsKnown, KeepsKeys};
 ghost use Rattle.sd_scenario.specs.Prints as prints;
 ghost use Rattle.sd_scenario.specs.Stops.{Fails, Halts};
@@ -21,9 +21,8 @@ use crate::stop::Stop;
 use sd_base::{Memory, Text};
 use sd_conf::Config;
 use sd_core::{Core, Look};
-use sd_directory::{put, put_all, take_out};
 use sd_ldap::DirEntry;
-use sd_provider::{bound_at, fetched_at};
+use sd_provider::{ShortDirectory, bound_at, fetched_at};
 use sd_rules::{Bound, Event, Fetched, Given, Key, Need, Said, StepFault};
 use sd_stub::Mode;
 use sd_wire::fields::{push_bytes, push_number};
@@ -35,7 +34,7 @@ use std::marker::Model;
 #[derive(Drop)]
 pub struct Site {
     config: Config,
-    entries: Vec<DirEntry>,
+    directory: ShortDirectory,
     changes: Vec<Change>,
     moment: u64,
 }
@@ -48,7 +47,7 @@ impl Model for Site {
 
     ghost view = { λ s. record {
       config = s.config;
-      entries = s.entries.items;
+      entries = s.directory;
       changes = reverse s.changes.items;
       moment = s.moment;
     } };
@@ -85,15 +84,15 @@ pub fn happen(core: &mut Core, now: u64, event: Event) -> Result<(), Stop>
 
 impl Site {
     /// A directory without entries whose servers are up, at moment 0.
-    pub fn new(alloc: Global, config: Config) -> Site
-        ensures { result ≡ record { config = config; entries = []; changes = []; moment = 0 } }
+    pub fn new(alloc: Global, config: Config) -> Result<Site, Memory>
+        ensures { IfOk result (λ site. site ≡ record { config = config; entries = []; changes = []; moment = 0 }) }
     {
-        Site {
+        Ok(Site {
             config,
-            entries: Vec::new(alloc),
+            directory: ShortDirectory::new(alloc, &[])?,
             changes: Vec::new(alloc),
             moment: 0,
-        }
+        })
     }
 
     /// The moment handed in, in seconds.
@@ -121,21 +120,21 @@ impl Site {
     pub fn put(&mut self, entry: DirEntry) -> Result<(), Memory>
         ensures { OnOk result (self.new ≡ record self.old { entries = keeping.put self.old.entries entry }) }
     {
-        put(&mut self.entries, entry)
+        self.directory.put(entry)
     }
 
     /// Puts entries one after the other.
     pub fn put_all(&mut self, entries: &[DirEntry]) -> Result<(), Memory>
         ensures { OnOk result (self.new ≡ record self.old { entries = keeping.put_all self.old.entries entries.now }) }
     {
-        put_all(&mut self.entries, entries)
+        self.directory.put_all(entries)
     }
 
     /// Takes out the entry of a DN.
-    pub fn take_out(&mut self, dn: &Text)
-        ensures { self.new ≡ record self.old { entries = keeping.removed self.old.entries dn.now } }
+    pub fn take_out(&mut self, dn: &Text) -> Result<(), Memory>
+        ensures { OnOk result (self.new ≡ record self.old { entries = keeping.removed self.old.entries dn.now }) }
     {
-        take_out(&mut self.entries, dn);
+        self.directory.take_out(dn)
     }
 
     /// Lets a server behave so from here on.
@@ -153,7 +152,7 @@ impl Site {
         ensures memory { IfOk result (λ fetched. is_out_of_memory fetched ≡ false) }
     {
         let mode = mode_of(self.changes.as_slice(), server);
-        fetched_at(alloc, mode, &self.config, self.entries.as_slice(), key)
+        fetched_at(alloc, mode, &self.config, &self.directory, key)
     }
 
     /// What a bind at a server comes to.
@@ -168,7 +167,7 @@ impl Site {
         ensures memory { IfOk result (λ bound. is_bind_out_of_memory bound ≡ false) }
     {
         let mode = mode_of(self.changes.as_slice(), server);
-        bound_at(alloc, mode, self.entries.as_slice(), dn, password)
+        bound_at(alloc, mode, &self.directory, dn, password)
     }
 }
 

@@ -6,7 +6,7 @@ ghost use Rattle.sd_rules.specs.Steps.{is_steppable};
 ghost use Rattle.sd_directory.specs.Entries.{dn_of};
 ghost use Rattle.sd_conf.specs.declared.config.Config.{Config};
 ghost use Rattle.sd_layout.specs.Faults.{has_few_servers};
-ghost use Rattle.sd_directory.specs.Keeping as keeping;
+ghost use Rattle.sd_stub.specs.Keeping as keeping;
 ghost use Rattle.sd_scenario.specs.Courses as courses;
 ghost use Rattle.sd_scenario.specs.Past.{names};
 ghost use Rattle.sd_scenario.specs.Prints as prints;
@@ -115,7 +115,7 @@ impl World {
         Ok(World {
             alloc,
             core: open_core(alloc, settings)?,
-            site: Site::new(alloc, config),
+            site: Site::new(alloc, config)?,
             clients: Vec::new(alloc),
             limit,
             is_held: false,
@@ -339,8 +339,7 @@ impl World {
         ensures { OnOk result (self.new ≡ script.entry_removed self.old (dn_of self.old.site.config.base kind name.now)) }
     {
         let dn = dn_of(self.alloc, &self.site.config().base, kind, name)?;
-        self.site.take_out(&dn);
-        Ok(())
+        self.site.take_out(&dn)
     }
 
     fn print_journal(&mut self) -> Result<(), Memory>

@@ -6,7 +6,7 @@ ghost use Rattle.sd_sudo.specs.Lookups as lookups;
 use sd_base::Memory;
 use sd_conf::Config;
 use sd_ldap::DirEntry;
-use sd_provider::fetched_at;
+use sd_provider::{ShortDirectory, fetched_at};
 use sd_rules::{Fetched, Key, Record};
 use sd_stub::Mode;
 use std::alloc::Global;
@@ -55,6 +55,7 @@ pub fn look_up(
     ensures found { IfOk result (λ found. lookups.Passes config.now (kept entries.now) key.now × (found ≡ lookups.found_for config.now (kept entries.now) key.now)) }
     ensures halt { IfErr result (λ halt. lookups.HaltsBy halt (lookups.Meets config.now (kept entries.now) key.now)) }
 {
-    let fetched = fetched_at(alloc, Mode::Up, config, entries, key)?;
+    let directory = ShortDirectory::new(alloc, entries)?;
+    let fetched = fetched_at(alloc, Mode::Up, config, &directory, key)?;
     found_or_halt(fetched)
 }
