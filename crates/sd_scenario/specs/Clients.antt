@@ -10,7 +10,7 @@ use Rattle.sd_rules.specs.declared.tasks.Bound.{Bound}
 use Rattle.sd_rules.specs.declared.tasks.Fetched.{Fetched}
 use Rattle.sd_rules.specs.declared.tasks.Need.{Need}
 use Rattle.sd_rules.specs.declared.tasks.Need.TheVariants as needs
-use Rattle.sd_rules.specs.Scripts.{need_at, is_saying}
+use Rattle.sd_rules.specs.Scripts.{need_at, awaits_reply, is_saying}
 use Rattle.sd_scenario.specs.Courses.{Course, script_of}
 use Rattle.sd_scenario.specs.Courses as courses
 
@@ -114,6 +114,10 @@ asked c = record {
   is_told = c.is_told || is_saying (need_of c);
   is_over = c.is_over || is_end (need_of c);
 }
+
+-- a client between two moves: it has ended, or its task needs an event
+abbrev pub is_settled : Client → Bool
+is_settled c = c.is_over || awaits_reply (need_of c)
 
 -- a client that has left: it leads nothing and waits for nothing
 abbrev pub gone : Client → Client

@@ -2,6 +2,7 @@
 use Rattle.std.specs.Prelude.{◌≡◌, ℕ, List, Result, Err}
 use Rattle.sd_scenario.specs.declared.stop.Stop.{Stop}
 use Rattle.sd_scenario.specs.declared.stop.Stop.TheVariants.{Full, Memory}
+use Rattle.sd_scenario.specs.Tasks as tasks
 use Rattle.sd_scenario.specs.Tasks.{Halt}
 
 -- a full journal is what the definitions say; want of memory is free
@@ -12,4 +13,4 @@ Fails (Full n) r = r ≡ Err n
 -- the same with what was printed before
 abbrev pub Halts : {Y : Type 0} → Stop → Result Y Halt → List ℕ → Type 0
 Halts Memory r printed = Unit {0}
-Halts (Full n) r printed = r ≡ Err (record { number = n; printed = printed })
+Halts (Full n) r printed = r ≡ Err (tasks.Full n printed)

@@ -1,5 +1,5 @@
 -- How the clients of a scenario take their steps.
-use Rattle.std.specs.Prelude.{ℕ, zero, suc, Bool, true, false, ◌&&◌, ◌+◌, ◌++◌, not, slice_get, slice_set, length, List, [], ◌∷◌, Option, Some, None, Result, Ok, Err, if◌then◌else◌}
+use Rattle.std.specs.Prelude.{◌≡◌, ◌⊎◌, ◌≤◌, ℕ, zero, suc, Bool, true, false, ◌&&◌, ◌+◌, ◌++◌, not, slice_get, slice_set, length, List, [], ◌∷◌, Option, Some, None, Result, Ok, Err, if◌then◌else◌}
 use Rattle.sd_rules.specs.declared.keys.Key.{Key}
 use Rattle.sd_ldap.specs.declared.entry.DirEntry.{DirEntry}
 use Rattle.sd_rules.specs.declared.events.Event.{Event}
@@ -14,7 +14,7 @@ use Rattle.sd_rules.specs.declared.tasks.Need.TheVariants as needs
 use Rattle.sd_rules.specs.Requests.{is_open_request, waits_for}
 use Rattle.sd_rules.specs.Steps.{Daemon, after, given, is_full, full_count}
 use Rattle.sd_scenario.specs.declared.directory.Change.{Change}
-use Rattle.sd_scenario.specs.Clients.{Client, about, asked, bound, fetched, gone, need_of, replied}
+use Rattle.sd_scenario.specs.Clients.{Client, about, asked, bound, fetched, gone, is_settled, need_of, replied}
 use Rattle.sd_provider.specs.Servers as servers
 use Rattle.sd_scenario.specs.Modes.{mode_of}
 use Rattle.sd_scenario.specs.Prints.{answer_line, left_line}
@@ -46,12 +46,19 @@ pub record Act : Type 0 where
 abbrev pub act : Daemon → Client → List ℕ → Act
 act d c printed = record { daemon = d; client = c; printed = printed }
 
--- A scenario that a full journal ends: the number in the refusal, and what was printed before.
-pub record Halt : Type 0 where
-  pub number : ℕ
-  pub printed : List ℕ
+-- What ends a scenario early, with what was printed before: a step that is refused as full, with the number in the refusal; or tasks
+-- that did not come to rest within the bound on their moves. The second never comes.
+pub data Halt : Type 0 where
+  Full : ℕ → List ℕ → Halt
+  Endless : List ℕ → Halt
 
--- a step that is refused as full ends what is done
+-- what was done was not ended by the bound on the moves
+abbrev pub is_bounded : {A : Type 0} → Result A Halt → Bool
+is_bounded (Ok x) = true
+is_bounded (Err (Full n printed)) = true
+is_bounded (Err (Endless printed)) = false
+
+-- an early end ends all that is done
 infixl 10 ◌>>=◌
 abbrev pub ◌>>=◌ : {A B E : Type 0} → Result A E → (A → Result B E) → Result B E
 (Ok x) >>= f = f x
@@ -60,7 +67,7 @@ abbrev pub ◌>>=◌ : {A B E : Type 0} → Result A E → (A → Result B E) �
 -- the same with what was printed before
 abbrev pub at_text : {A : Type 0} → List ℕ → Result A ℕ → Result A Halt
 at_text printed (Ok x) = Ok x
-at_text printed (Err n) = Err (record { number = n; printed = printed })
+at_text printed (Err n) = Err (Full n printed)
 
 -- the daemon after a step, and what the step gives, or the number in the refusal as full
 abbrev pub step : Daemon → ℕ → Event → Result (Daemon × Given) ℕ
@@ -106,7 +113,7 @@ acted_by s number a (needs.Await ticket) = stepped s a (events.Collect ticket)
 acted_by s number a need = Ok (with_pair a.daemon (settled_by s number (a.client, a.printed) need))
 
 -- A move of the client of task `number`: the event that it needs, or what it needs without one; then the directory's answer or
--- the printing that follows, and whether this was all. No script has more than these two before its next event.
+-- the printing that follows, and whether this was all. After these two it has ended or needs an event.
 abbrev pub asked_act : Act → Act
 asked_act a = act a.daemon (asked a.client) a.printed
 
@@ -135,6 +142,15 @@ abbrev pub is_ready_at : List Entry → Option Client → Bool
 is_ready_at past None = false
 is_ready_at past (Some c) = is_ready past c
 
+-- the client in this place is there, and between two moves
+abbrev pub is_settled_at : Option Client → Bool
+is_settled_at None = false
+is_settled_at (Some c) = is_settled c
+
+-- no client is ready
+abbrev pub NoneIsReady : World → Type 0
+NoneIsReady w = (place : ℕ) → is_ready_at w.daemon.past (slice_get w.clients place) ≡ false
+
 -- the world with what a client's move made of it
 abbrev pub with_act : World → ℕ → Act → World
 with_act w place a = record w { daemon = a.daemon; clients = slice_set w.clients place a.client; printed = a.printed }
@@ -162,6 +178,12 @@ abbrev pub moves_at : ℕ → World → ℕ → Result World Halt
 moves_at zero w place = Ok w
 moves_at (suc count) w place = move_at w place >>= λ v. moves_at count v place
 
+-- The client in this place makes so many events, an entry of the journal each. Where they are fewer it can make no more.
+pub record MakesEvents (count place : ℕ) (w v : World) : Type 0 where
+  pub most : length v.daemon.past ≤ length w.daemon.past + count
+  pub all : (length v.daemon.past ≡ length w.daemon.past + count) ⊎ (is_ready_at v.daemon.past (slice_get v.clients place) ≡ false)
+  pub settled : is_settled_at (slice_get v.clients place) ≡ true
+
 -- ---- tasks that run
 
 -- the place of the first client that is ready, or the number of clients
@@ -174,10 +196,12 @@ abbrev pub next_up : World → ℕ → ℕ
 next_up w last =
     if is_ready_at w.daemon.past (slice_get w.clients last) then last else first_ready w.daemon.past w.clients
 
--- A task runs until it ends or waits for an open request, and then the least-numbered that can. Each move but the first of a
--- client makes an entry, and the journal has places for no more than its limit, so this bound on the moves is not met.
+-- A task runs until it ends or waits for an open request, and then the least-numbered that can, until none can. Each move makes an
+-- entry or ends its client, and the journal has places for no more than its limit: so a task that could go on once the bound on the
+-- moves is used up would be an error, which never comes.
 abbrev pub run_on : ℕ → World → ℕ → Result World Halt
-run_on zero w last = Ok w
+run_on zero w last =
+    if is_ready_at w.daemon.past (slice_get w.clients (next_up w last)) then Err (Endless w.printed) else Ok w
 run_on (suc moves) w last =
     if is_ready_at w.daemon.past (slice_get w.clients (next_up w last))
     then (client_moved_at w (next_up w last) >>= λ v. run_on moves v (next_up w last))

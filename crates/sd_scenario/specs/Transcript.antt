@@ -1,5 +1,5 @@
 -- What a scenario prints.
-use Rattle.std.specs.Prelude.{ℕ, Bool, true, false, ◌+◌, ◌-◌, ◌++◌, length, reverse, List, [], ◌∷◌, Option, Some, None, Result, Ok, Err, if◌then◌else◌}
+use Rattle.std.specs.Prelude.{◌≡◌, ℕ, Bool, true, false, not, ◌&&◌, ◌+◌, ◌-◌, ◌++◌, length, reverse, slice_get, List, [], ◌∷◌, Option, Some, None, Result, Ok, Err, if◌then◌else◌}
 use Rattle.sd_rules.specs.declared.keys.Key.TheVariants as keys
 use Rattle.sd_rules.specs.declared.events.Event.{Event}
 use Rattle.sd_rules.specs.declared.events.Event.TheVariants as events
@@ -17,7 +17,7 @@ use Rattle.sd_stub.specs.Keeping.{put, put_all, removed}
 use Rattle.sd_scenario.specs.Clients.{begun}
 use Rattle.sd_scenario.specs.Courses.{Course, LoginWords, lookup, login, check}
 use Rattle.sd_scenario.specs.Prints.{full_line, journal_text}
-use Rattle.sd_scenario.specs.Tasks.{Site, World, Halt, ◌>>=◌, at_text, happened, moves_at, run_from, left_at}
+use Rattle.sd_scenario.specs.Tasks.{Site, World, Halt, Full, Endless, MakesEvents, ◌>>=◌, at_text, happened, is_settled_at, moves_at, run_from, left_at}
 
 -- where a scenario of this configuration begins: no entry of the journal or the directory, each server up, moment 0, no task
 abbrev pub start : Config → World
@@ -125,27 +125,51 @@ line_done w (lines.Step task count) = held_line_done w (lines.Step task count)
 line_done w (lines.Abandon task) = held_line_done w (lines.Abandon task)
 line_done w line = Ok (directory_line_done w line)
 
--- what lines print, and whether a full journal ended them
+-- a line that makes a task
+abbrev pub makes_task : Line → Bool
+makes_task (lines.GetUser name) = true
+makes_task (lines.GetUid uid) = true
+makes_task (lines.GetGroup name) = true
+makes_task (lines.GetGid gid) = true
+makes_task (lines.GroupsOf name) = true
+makes_task (lines.Login user password) = true
+makes_task (lines.Access user service) = true
+makes_task _ = false
+
+-- a line that lets tasks run: the end of a hold, or one that makes a task outside a hold
+abbrev pub lets_run : World → Line → Bool
+lets_run w lines.Go = true
+lets_run w line = makes_task line && not w.is_held
+
+-- a `step` lets a task that needs an event make its events
+abbrev pub StepsAs : World → Line → World → Type 0
+StepsAs w (lines.Step task count) v =
+    is_settled_at (slice_get w.clients (task - 1)) ≡ true → MakesEvents count (task - 1) w v
+StepsAs w _ v = Unit {0}
+
+-- what lines print, whether a full journal ended them, and whether the bound on the moves did, which never comes
 pub record Transcript : Type 0 where
   pub text : List ℕ
   pub is_full : Bool
+  pub is_endless : Bool
 
 abbrev pub halted : Halt → Transcript
-halted h = record { text = h.printed ++ full_line h.number; is_full = true }
+halted (Full number printed) = record { text = printed ++ full_line number; is_full = true; is_endless = false }
+halted (Endless printed) = record { text = printed; is_full = false; is_endless = true }
 
--- a line, and then those behind it, or the end by a full journal
+-- a line, and then those behind it, or an early end
 abbrev pub transcript_after : Result World Halt → (World → Transcript) → Transcript
 transcript_after (Err h) rest = halted h
 transcript_after (Ok w) rest = rest w
 
 abbrev pub transcript_on : World → List Statement → Transcript
-transcript_on w [] = record { text = w.printed; is_full = false }
+transcript_on w [] = record { text = w.printed; is_full = false; is_endless = false }
 transcript_on w (s ∷ rest) = transcript_after (line_done w s.line) (λ v. transcript_on v rest)
 
 -- by the configuration; where it is refused nothing is done
 abbrev pub transcript_by : Result Config ℕ → List Statement → Transcript
 transcript_by (Ok c) body = transcript_on (start c) body
-transcript_by (Err n) body = record { text = []; is_full = false }
+transcript_by (Err n) body = record { text = []; is_full = false; is_endless = false }
 
 -- the transcript of a scenario's text
 unfoldable pub transcript : List ℕ → Transcript

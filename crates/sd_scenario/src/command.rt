@@ -24,7 +24,7 @@ fn is_scenario(words: &[String]) -> bool
     word.as_bytes() == b"scenario".as_slice()
 }
 
-#[tactic(auto, using(crate::proofs::Statuses::ending_is_status))]
+#[tactic(auto, using(crate::proofs::Statuses::ending_is_status, crate::proofs::LineLaws::transcript_bounded))]
 /// Carries out the scenario that the source gives, and writes what it prints to the sink.
 pub fn scenario<S: Source, W: Sink>(
     alloc: Global,
@@ -60,6 +60,9 @@ pub fn scenario<S: Source, W: Sink>(
     ensures bad_line { result ≡ BAD_LINE → IfSome (S.left source.old) (λ text.
         (length text ≤ LIMIT)
         × ((n : ℕ) × (lines.first_bad text ≡ Some n) × Appends (W.held sink.old) (W.held sink.new) (endings.bad_line n))) }
+
+    // Whatever the text, its tasks come to rest: the bound on their moves is not used up.
+    ensures bounded { (text : List ℕ) → (script.transcript text).is_endless ≡ false }
 
     // A step of the transcript is refused as full. The transcript is written, whose last line is `journal full n`.
     ensures journal_full { result ≡ JOURNAL_FULL → IfSome (S.left source.old) (λ text.

@@ -300,7 +300,7 @@ fn act(
     }
 }
 
-/// Carries out twice what a client's task needs, where it needs no event.
+/// Carries out twice what a client's task needs, where it needs no event: then it has ended or needs one.
 fn settle_twice(
     alloc: Global,
     site: &Site,
@@ -309,6 +309,7 @@ fn settle_twice(
     out: &mut Vec<u8>,
 ) -> Result<(), Memory>
     ensures done { OnOk result (tasks.settled site.now number (tasks.settled site.now number (client.old, out.old.items)) ≡ (client.new, out.new.items)) }
+    ensures settled { OnOk result (clients.is_settled client.new ≡ true) }
     ensures known { (past : List Entry) → IsKnown past client.old.task → IsKnown past client.new.task }
 {
     settle(alloc, site, number, client, out)?;
@@ -327,6 +328,7 @@ pub fn make_move(
 ) -> Result<(), Stop>
     requires known { IsKnown core.old.past client.old.task }
     ensures known { IsKnown core.new.past client.new.task }
+    ensures settled { OnOk result (clients.is_settled client.new ≡ true) }
     ensures keys { KeepsKeys core.old.past core.new.past }
     ensures done { let done = tasks.moved site.now number (tasks.act core.old client.old out.old.items) in MatchResult result
         (λ _. done ≡ Ok (tasks.act core.new client.new out.new.items))

@@ -1,5 +1,5 @@
 // A scenario's lines, carried out one after the other.
-ghost use Rattle.std.specs.Prelude.{◌≡◌, ◌+◌, ◌<◌, ◌^◌, ◌++◌, length, IfOk, OnOk, Ok, not, true};
+ghost use Rattle.std.specs.Prelude.{◌≡◌, ◌+◌, ◌<◌, ◌^◌, ◌++◌, length, IfOk, OnOk, Ok, not, true, false};
 ghost use Rattle.std.specs.Option.{option_copied, option_map_or};
 ghost use Rattle.sd_layout.specs.Blocks.{statements_of};
 ghost use Rattle.sd_layout.specs.Faults.{has_few_servers};
@@ -28,9 +28,10 @@ fn do_lines(
     first: u64,
     body: Option<&[u8]>,
 ) -> Result<bool, Memory>
-    requires { first + option_map_or (λ bytes. length bytes + 1) (option_copied body) 0 < 2 ^ 33 }
+    requires room { first + option_map_or (λ bytes. length bytes + 1) (option_copied body) 0 < 2 ^ 33 }
+    requires bounded { (script.transcript_on world.old (statements_of first (words.pieces_in 10 (option_copied body)))).is_endless ≡ false }
     ensures { IfOk result (λ whole. script.transcript_on world.old (statements_of first (words.pieces_in 10 (option_copied body.entry)))
-        ≡ record { text = world.new.printed; is_full = not whole }) }
+        ≡ record { text = world.new.printed; is_full = not whole; is_endless = false }) }
 {
     let mut number = first;
     let mut left = body;
@@ -50,6 +51,7 @@ fn do_lines(
     Ok(true)
 }
 
+#[tactic(auto, using(crate::proofs::LineLaws::starts_bounded))]
 /// Carries out the lines of a scenario of this configuration; the first has the number `first`.
 pub fn run(
     alloc: Global,
@@ -59,8 +61,11 @@ pub fn run(
 ) -> Result<Printed, Memory>
     requires few { has_few_servers config ≡ true }
     requires room { first + option_map_or (λ bytes. length bytes + 1) (option_copied body) 0 < 2 ^ 33 }
-    ensures { IfOk result (λ printed. let transcript = script.transcript_by (Ok config) (statements_of first (words.pieces_in 10 (option_copied body.entry))) in
+    ensures printed { IfOk result (λ printed. let transcript = script.transcript_by (Ok config) (statements_of first (words.pieces_in 10 (option_copied body.entry))) in
         (printed.text ≡ transcript.text) × (printed.is_full ≡ transcript.is_full)) }
+
+    // Its tasks come to rest: the bound on their moves is not used up.
+    ensures bounded { (script.transcript_by (Ok config) (statements_of first (words.pieces_in 10 (option_copied body.entry)))).is_endless ≡ false }
 {
     let mut world = World::new(alloc, config)?;
     let whole = do_lines(alloc, &mut world, first, body)?;

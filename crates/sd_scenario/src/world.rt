@@ -198,9 +198,10 @@ impl World {
         first_ready(&self.core, self.clients.as_slice())
     }
 
-    /// Lets the tasks run, from the client in this place on.
-    #[tactic(auto, using(crate::proofs::Counting::run_counted, crate::proofs::Counting::run_rests, crate::proofs::Counting::run_stopped))]
+    /// Lets the tasks run, from the client in this place on, until none is ready.
+    #[tactic(auto, using(crate::proofs::Counting::run_counted, crate::proofs::Counting::run_rests, crate::proofs::Counting::run_stopped, crate::proofs::Counting::run_spent))]
     fn run_from(&mut self, first: usize) -> Result<(), Stop>
+        requires bounded { tasks.is_bounded (tasks.run_from self.old first) ≡ true }
         ensures done { let done = tasks.run_from self.old first in MatchResult result (λ _. done ≡ Ok self.new) (λ stop. Halts stop done self.new.printed) }
         ensures clients { length self.new.clients ≡ length self.old.clients }
     {
@@ -219,6 +220,7 @@ impl World {
     }
 
     fn run_unless_held(&mut self, last: usize) -> Result<(), Stop>
+        requires bounded { tasks.is_bounded (script.run_unless_held self.old last) ≡ true }
         ensures done { let done = script.run_unless_held self.old last in MatchResult result (λ _. done ≡ Ok self.new) (λ stop. Halts stop done self.new.printed) }
         ensures clients { length self.new.clients ≡ length self.old.clients }
     {
@@ -244,6 +246,7 @@ impl World {
     fn make_task(&mut self, task: ClientTask) -> Result<(), Stop>
         requires script { courses.script task ≡ courses.script_of (courses.seen task) }
         requires begun { names (courses.seen task) ≡ [] }
+        requires bounded { tasks.is_bounded (script.task_made self.old (courses.seen task)) ≡ true }
         ensures done { let done = script.task_made self.old (courses.seen task) in MatchResult result (λ _. done ≡ Ok self.new) (λ stop. Halts stop done self.new.printed) }
     {
         let place = self.clients.len();
@@ -253,7 +256,8 @@ impl World {
 
     /// Makes a task that looks up a key.
     fn look_up(&mut self, key: Key) -> Result<(), Stop>
-        requires { is_client_key key ≡ true }
+        requires client { is_client_key key ≡ true }
+        requires bounded { tasks.is_bounded (script.task_made self.old (courses.lookup key)) ≡ true }
         ensures done { let done = script.task_made self.old (courses.lookup key) in MatchResult result (λ _. done ≡ Ok self.new) (λ stop. Halts stop done self.new.printed) }
     {
         self.make_task(ClientTask::look_up(key))
@@ -262,6 +266,7 @@ impl World {
     /// Makes a task that logs a user in.
     #[tactic(auto, using(crate::proofs::ReplyLaws::login_names_nothing))]
     fn log_in(&mut self, user: Text, password: Text) -> Result<(), Stop>
+        requires bounded { tasks.is_bounded (script.task_made self.old (courses.login (script.login_words self.old user password))) ≡ true }
         ensures done { let done = script.task_made self.old (courses.login (script.login_words self.old user password)) in MatchResult result (λ _. done ≡ Ok self.new) (λ stop. Halts stop done self.new.printed) }
     {
         let stores = self.site.config().settings.cache_credentials;
@@ -270,6 +275,7 @@ impl World {
 
     /// Makes a task that checks an account.
     fn check(&mut self, user: Text, service: Text) -> Result<(), Stop>
+        requires bounded { tasks.is_bounded (script.task_made self.old (courses.check (record { user = user; service = service; mode = self.old.site.config.settings.access }))) ≡ true }
         ensures done { let done = script.task_made self.old (courses.check (record { user = user; service = service; mode = self.old.site.config.settings.access })) in MatchResult result (λ _. done ≡ Ok self.new) (λ stop. Halts stop done self.new.printed) }
     {
         let mode = self.site.config().settings.access;
@@ -358,6 +364,7 @@ impl World {
 
     /// A line about the tasks that are held.
     fn do_held_line(&mut self, line: &Line) -> Result<(), Stop>
+        requires bounded { tasks.is_bounded (script.held_line_done self.old line.now) ≡ true }
         ensures done { let done = script.held_line_done self.old line.now in MatchResult result (λ _. done ≡ Ok self.new) (λ stop. Halts stop done self.new.printed) }
     {
         match line {
@@ -407,6 +414,7 @@ impl World {
 
     /// A line that makes a task.
     fn do_task_line(&mut self, line: &Line) -> Result<(), Stop>
+        requires bounded { tasks.is_bounded (script.task_line_done self.old line.now) ≡ true }
         ensures done { let done = script.task_line_done self.old line.now in MatchResult result (λ _. done ≡ Ok self.new) (λ stop. Halts stop done self.new.printed) }
     {
         match line {
@@ -421,8 +429,9 @@ impl World {
         }
     }
 
-    /// Does what a line says.
-    pub fn do_line(&mut self, line: &Line) -> Result<(), Stop>
+    /// Carries out a line.
+    fn carry_out(&mut self, line: &Line) -> Result<(), Stop>
+        requires bounded { tasks.is_bounded (script.line_done self.old line.now) ≡ true }
         ensures done { let done = script.line_done self.old line.now in MatchResult result (λ _. done ≡ Ok self.new) (λ stop. Halts stop done self.new.printed) }
     {
         match line {
@@ -446,5 +455,17 @@ impl World {
                 Ok(())
             }
         }
+    }
+
+    /// Does what a line says.
+    pub fn do_line(&mut self, line: &Line) -> Result<(), Stop>
+        requires bounded { tasks.is_bounded (script.line_done self.old line.now) ≡ true }
+        ensures done { let done = script.line_done self.old line.now in MatchResult result (λ _. done ≡ Ok self.new) (λ stop. Halts stop done self.new.printed) }
+
+        // Tasks that a line lets run do so until none is ready, and a step makes its events.
+        ensures rests { script.lets_run self.old line.now ≡ true → OnOk result (tasks.NoneIsReady self.new) }
+        ensures steps { OnOk result (script.StepsAs self.old line.now self.new) }
+    {
+        self.carry_out(line)
     }
 }

@@ -4,8 +4,14 @@ use Rattle.sd_layout.specs.Blocks.{statements_of}
 use Rattle.sd_lines.specs.Words as words
 use Rattle.sd_scenario.specs.Prints.{full_line}
 use Rattle.sd_scenario.specs.Tasks.{World}
+use Rattle.sd_scenario.proofs.LineLaws.{line_of_bounded}
 use Rattle.sd_scenario.proofs.Output.{full_end}
 use Rattle.sd_scenario.proofs.runs.do_lines.Goals as goal
+
+pub do_line-requires : goal.do_line-requires
+do_line-requires c =
+    let begins : statements_of c.loop-left.number (words.pieces_in 10 (option_copied c.loop-left.left)) ≡ c.in_ok-next.next.statement ∷ statements_of c.in_ok-next.next.number (words.pieces_in 10 (option_copied c.in_ok-next.next.rest)) = rw c.in-Some.is c.in_ok-next.ensures.told in
+    line_of_bounded c.loop-left.world c.args.world.now c.in_ok-next.next.statement _ _ (statements_of c.args.first (words.pieces_in 10 (option_copied c.args.body))) begins c.loop-left.invariant.told c.requires.bounded
 
 pub returns-in-Err-Full : goal.returns-in-Err-Full
 returns-in-Err-Full c =
