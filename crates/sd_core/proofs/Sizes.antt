@@ -24,7 +24,7 @@ within_choice : (b : Bool) (x : Option Standing) (n : ℕ) → bytes_of_standing
 within_choice true x n h = h
 within_choice false x n h = omega arith
 
-spoken_within : (k : Key) (a : Option Standing) → bytes_of_standing (spoken k a) ≤ bytes_of_standing a
+pub spoken_within : (k : Key) (a : Option Standing) → bytes_of_standing (spoken k a) ≤ bytes_of_standing a
 spoken_within k None = omega arith
 spoken_within k (Some a) = within_choice (speaks_of a.own a.answered k) (Some a) (bytes_of_answered a.answered) (omega arith)
 
@@ -36,7 +36,7 @@ kept_within : (past : List Entry) (e : Entry) (row : Row) → bytes_of_standing 
 kept_within past e (rows.Answer n m key answered voided) = omega arith
 kept_within past e _ = omega arith
 
-answer_within : (past : List Entry) (e : Entry) (event : Event) → bytes_of_standing (answer_by past e event) ≤ bytes_of_event event
+pub answer_within : (past : List Entry) (e : Entry) (event : Event) → bytes_of_standing (answer_by past e event) ≤ bytes_of_event event
 answer_within past e (events.Answer request answered) =
     within_choice (is_closed e.reply) (answer_under e answered (key_of past request)) (bytes_of_answered answered) (under_within e answered (key_of past request))
 answer_within past e (events.Kept row) = kept_within past e row

@@ -7,3 +7,4 @@ pub mod Laws
 pub mod Held
 pub mod Growth
 pub mod Lists
+pub mod Ruled

@@ -1,19 +1,18 @@
 // Account checks, by mode, by the simple lists, or by the access rules of the directory.
 ghost use Rattle.std.specs.Prelude.{◌≡◌, ◌<◌, ◌^◌, map, IfOk};
 ghost use Rattle.std.specs.Option.{option_map};
+ghost use Rattle.sd_rules.specs.declared.keys.Key.TheVariants as keys;
 ghost use Rattle.sd_rules.specs.Access as access;
+ghost use Rattle.sd_rules.specs.Past as answers;
 ghost use Rattle.sd_rules.specs.TextBytes as bytes;
 ghost use Rattle.sd_journal.specs.Seen as seen;
-ghost use Rattle.sd_hbac.specs.Seen as asked;
-ghost use Rattle.sd_core.specs.Bounds.{bytes_of_standing};
 
+use crate::rulings::Ruling;
 use sd_base::{Copied, Memory, Text, Texts};
-use sd_hbac::{allowed, simple};
+use sd_hbac::simple;
 use sd_journal::past::Standing;
 use sd_past::Past;
-use sd_rules::{
-    AccessMode, Answered, By, GroupRef, Key, NotBy, Record, Reply, RuleBook, Settings, Who,
-};
+use sd_rules::{AccessMode, Answered, By, GroupRef, Key, NotBy, Record, Reply, Settings, Who};
 use std::alloc::Global;
 
 fn group_names(alloc: Global, groups: &[GroupRef]) -> Result<Texts, Memory>
@@ -59,30 +58,6 @@ fn user_groups<P: Past>(alloc: Global, past: &P, user: &Text) -> Result<Texts, M
     groups_of_user(alloc, past.newest(&key))
 }
 
-fn reply_by_rule(number: u64, rule: Option<u32>) -> Reply
-    ensures { result ≡ access.reply_by_rule number rule }
-{
-    match rule {
-        Some(place) => Reply::Granted(By::Rule(number, place)),
-        None => Reply::Denied(NotBy::NoRule),
-    }
-}
-
-/// The reply by the answer that holds the rules.
-#[tactic(auto, using(crate::proofs::Sizes::rules_within_bytes))]
-fn reply_by_rules(who: &Who<'_>, answer: Option<Standing<'_>>) -> Reply
-    requires { bytes_of_standing (option_map seen.standing answer) < 2 ^ 32 }
-    ensures { result ≡ access.reply_by_rules (asked.asker who.now) (option_map seen.standing answer.entry) }
-{
-    match answer {
-        Some(a) => match a.answered {
-            Answered::Found(Record::Rules(book)) => reply_by_rule(a.number, allowed(book, who)),
-            _ => Reply::Denied(NotBy::NoRule),
-        },
-        None => Reply::Denied(NotBy::NoRule),
-    }
-}
-
 fn reply_by_lists(allowed: bool) -> Reply
     ensures { result ≡ access.reply_by_lists allowed }
 {
@@ -93,15 +68,16 @@ fn reply_by_lists(allowed: bool) -> Reply
     }
 }
 
-#[tactic(auto, using(crate::proofs::Sizes::newest_within))]
-fn access_by_rules<P: Past>(
+fn access_by_rules<P: Past, R: Ruling>(
     alloc: Global,
     settings: &Settings,
     past: &P,
+    ruling: &R,
     user: &Text,
     service: &Text,
 ) -> Result<Reply, Memory>
-    requires { bytes.text_bytes (P.entries past.now) < 2 ^ 32 }
+    requires texts { bytes.text_bytes (P.entries past.now) < 2 ^ 32 }
+    requires says { R.Says ruling.now (answers.newest (P.entries past.now) keys.Rules) }
     ensures { IfOk result (λ reply. reply ≡ access.access_by AccessMode.Ipa settings.now (P.entries past.now) user.now service.now) }
 {
     let groups = user_groups(alloc, past, user)?;
@@ -113,18 +89,20 @@ fn access_by_rules<P: Past>(
         host: &settings.hostname,
         host_groups: &host_groups,
     };
-    Ok(reply_by_rules(&who, past.newest(&Key::Rules)))
+    Ok(ruling.reply(past, &who))
 }
 
 /// The reply to an account check of a user at a service.
-pub fn access_of<P: Past>(
+pub fn access_of<P: Past, R: Ruling>(
     alloc: Global,
     settings: &Settings,
     past: &P,
+    ruling: &R,
     user: &Text,
     service: &Text,
 ) -> Result<Reply, Memory>
-    requires { bytes.text_bytes (P.entries past.now) < 2 ^ 32 }
+    requires texts { bytes.text_bytes (P.entries past.now) < 2 ^ 32 }
+    requires says { R.Says ruling.now (answers.newest (P.entries past.now) keys.Rules) }
     ensures { IfOk result (λ reply. reply ≡ access.access_of settings.now (P.entries past.now) user.now service.now) }
 {
     match settings.access {
@@ -134,6 +112,6 @@ pub fn access_of<P: Past>(
             let groups = user_groups(alloc, past, user)?;
             Ok(reply_by_lists(simple(&settings.simple, user, &groups)))
         }
-        AccessMode::Ipa => access_by_rules(alloc, settings, past, user, service),
+        AccessMode::Ipa => { access_by_rules(alloc, settings, past, ruling, user, service) },
     }
 }

@@ -18,13 +18,14 @@ ghost use Rattle.sd_core.specs.declared.cores.OpenFault.TheVariants as faults;
 use crate::given::given_by;
 use crate::opens::is_open;
 use crate::replies::{reply_to, reply_to_collect};
+use crate::rulings::{Compiled, Ruling, Unkept, keep, ruling_by};
 use crate::text_bytes::of_entries;
 use sd_base::Memory;
 use sd_index::texts::of_event;
 use sd_journal::requests::is_took;
 use sd_keeping::{OpenJournal, bad_row, opened};
 use sd_past::{IndexedPast, ListedPast, Past};
-use sd_rules::{Entry, Event, Given, Journal, Refused, Rows, Settings, StepFault};
+use sd_rules::{Entry, Event, Given, Journal, Key, Refused, Rows, Settings, StepFault};
 use std::alloc::Global;
 use std::marker::Model;
 
@@ -33,7 +34,7 @@ const TEXT_LIMIT: u64 = 512 * 1024 * 1024;
 
 /// A core over the entries made so far, kept one way or another.
 #[derive(Drop)]
-pub struct EntryCore<P: Past> {
+pub struct EntryCore<P: Past, R: Ruling> {
     alloc: Global,
     settings: Settings,
     next: u64,
@@ -41,9 +42,12 @@ pub struct EntryCore<P: Past> {
     text_bytes: u64,
     has_stopped: bool,
     past: P,
+    ruling: R,
 }
 
-impl<P: Past> Model for EntryCore<P> {
+impl<P: Past, R: Ruling> Model for EntryCore<P, R> {
+    ghost use Rattle.sd_rules.specs.declared.keys.Key.TheVariants as keys;
+    ghost use Rattle.sd_rules.specs.Past as answers;
     ghost use Rattle.sd_rules.specs.Steps as steps;
     ghost use Rattle.sd_core.specs.Held as held;
 
@@ -51,14 +55,14 @@ impl<P: Past> Model for EntryCore<P> {
 
     ghost view = { λ c. held.daemon_of c.settings c.next c.floor (P.entries c.past) };
 
-    ghost invariant = { λ c. held.IsHeld c.settings c.next c.floor c.text_bytes c.has_stopped (P.entries c.past) };
+    ghost invariant = { λ c. (held.IsHeld c.settings c.next c.floor c.text_bytes c.has_stopped (P.entries c.past)) × (R.Says c.ruling (answers.newest (P.entries c.past) keys.Rules)) };
 }
 
-/// A core that seeks each answer in the list of its entries.
-pub type PlainCore = EntryCore<ListedPast>;
+/// A core that seeks each answer in the list of its entries, and reads the access rules there.
+pub type PlainCore = EntryCore<ListedPast, Unkept>;
 
-/// A core that answers from an index beside the list, without a walk.
-pub type IndexedCore = EntryCore<IndexedPast>;
+/// A core that answers from an index beside the list, without a walk, and checks accounts by compiled rules.
+pub type IndexedCore = EntryCore<IndexedPast, Compiled>;
 
 /// Why a core is not opened.
 #[derive(Clone, Copy, Debug, PartialEq, Eq)]
@@ -148,7 +152,7 @@ fn gives_back<P: Past>(past: &P, event: &Event) -> bool
     }
 }
 
-impl<P: Past> EntryCore<P> {
+impl<P: Past, R: Ruling> EntryCore<P, R> {
     /// A core with kept rows: an entry for each but the head. Without rows it has none. At most 64 servers. Where keys and names are
     /// hashed, the secret keeps whoever chooses them from choosing their hashes.
     pub fn open_keyed(
@@ -156,7 +160,7 @@ impl<P: Past> EntryCore<P> {
         settings: Settings,
         rows: Rows,
         secret: &[u8],
-    ) -> Result<EntryCore<P>, OpenFault>
+    ) -> Result<EntryCore<P, R>, OpenFault>
         requires servers { settings.primaries + settings.backups ≤ 64 }
         requires few { length rows < 2 ^ 32 }
         ensures opened { IfOk result (λ core. core ≡ kept.opened settings rows) }
@@ -175,6 +179,7 @@ impl<P: Past> EntryCore<P> {
         let text_bytes = of_entries(entries.as_slice());
         let has_stopped = has_stopped(entries.as_slice());
         let past = P::open(alloc, entries, secret)?;
+        let ruling = R::of(alloc, past.newest(&Key::Rules))?;
         Ok(EntryCore {
             alloc,
             settings,
@@ -183,11 +188,12 @@ impl<P: Past> EntryCore<P> {
             text_bytes,
             has_stopped,
             past,
+            ruling,
         })
     }
 
     /// A core with kept rows, whose hashes may be known.
-    pub fn open(alloc: Global, settings: Settings, rows: Rows) -> Result<EntryCore<P>, OpenFault>
+    pub fn open(alloc: Global, settings: Settings, rows: Rows) -> Result<EntryCore<P, R>, OpenFault>
         requires servers { settings.primaries + settings.backups ≤ 64 }
         requires few { length rows < 2 ^ 32 }
         ensures opened { IfOk result (λ core. core ≡ kept.opened settings rows) }
@@ -299,6 +305,7 @@ impl<P: Past> EntryCore<P> {
             self.alloc,
             &self.settings,
             &self.past,
+            &self.ruling,
             number,
             moment,
             event,
@@ -319,7 +326,11 @@ impl<P: Past> EntryCore<P> {
         let next = entry.number + 1;
         let text_bytes = self.text_bytes + of_event(&entry.event);
         let has_stopped = stops_after(&entry.event, self.has_stopped);
+        let Ok(ruling) = ruling_by(self.alloc, &self.past, &entry) else {
+            return Err(entry.event);
+        };
         self.past.put(entry)?;
+        keep(&mut self.ruling, ruling);
         self.next = next;
         self.text_bytes = text_bytes;
         self.has_stopped = has_stopped;

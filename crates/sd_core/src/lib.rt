@@ -8,6 +8,7 @@ pub mod given;
 pub mod lists;
 pub mod opens;
 pub mod replies;
+pub mod rulings;
 pub mod text_bytes;
 
 pub use cores::{EntryCore, IndexedCore, Look, OpenFault, PlainCore};

@@ -10,6 +10,7 @@ ghost use Rattle.sd_core.specs.declared.lists.ListFault.TheVariants as faults;
 
 use crate::cores::EntryCore;
 use crate::daemon::Core;
+use crate::rulings::Ruling;
 use sd_base::{Copied, Items, Memory};
 use sd_past::Past;
 use sd_rules::{Event, Given, Refused, StepFault};
@@ -43,7 +44,7 @@ pub trait Answers {
         ensures closing { closes_place (daemon self.old).past event ≡ true → IsOk result };
 }
 
-impl<P: Past> Answers for EntryCore<P> {
+impl<P: Past, R: Ruling> Answers for EntryCore<P, R> {
     ghost daemon = { λ c. c };
 
     fn answer(&mut self, now: u64, event: Event) -> Result<Given, Refused> {

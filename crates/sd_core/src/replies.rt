@@ -1,6 +1,8 @@
 // The reply to every event.
 ghost use Rattle.std.specs.Prelude.{◌≡◌, ◌+◌, ◌<◌, ◌^◌, true, false, reverse, IfOk, IsOk};
 ghost use Rattle.std.specs.Option.{option_copied, option_map};
+ghost use Rattle.sd_rules.specs.declared.keys.Key.TheVariants as keys;
+ghost use Rattle.sd_rules.specs.Past as answers;
 ghost use Rattle.sd_rules.specs.Steps as steps;
 ghost use Rattle.sd_rules.specs.TextBytes as bytes;
 ghost use Rattle.sd_journal.specs.Seen as seen;
@@ -8,6 +10,7 @@ ghost use Rattle.sd_core.specs.Numbered as replies;
 
 use crate::access::access_of;
 use crate::opens::is_open;
+use crate::rulings::Ruling;
 use sd_base::{Memory, Text};
 use sd_journal::answers::is_found;
 use sd_journal::logins::{Login, cached_login, usable_hash, user_of, verdict_of, verdict_of_try};
@@ -233,16 +236,18 @@ fn reply_under_number<P: Past>(
 }
 
 /// The reply to an event, over the entries before it; `number` and `t` are the number and the moment of its own entry.
-pub fn reply_to<P: Past>(
+pub fn reply_to<P: Past, R: Ruling>(
     alloc: Global,
     settings: &Settings,
     past: &P,
+    ruling: &R,
     number: u64,
     t: u64,
     event: &Event,
 ) -> Result<Reply, Memory>
     requires servers { settings.now.primaries + settings.now.backups < 2 ^ 32 }
     requires texts { bytes.text_bytes (P.entries past.now) < 2 ^ 32 }
+    requires says { R.Says ruling.now (answers.newest (P.entries past.now) keys.Rules) }
     ensures made { IfOk result (λ reply. reply ≡ steps.reply_to settings.now (P.entries past.now) number t event.now) }
     ensures free { replies.is_access event.now ≡ false → IsOk result }
 {
@@ -259,7 +264,9 @@ pub fn reply_to<P: Past>(
         Event::LoginGuess(user, named, right) => {
             Reply::Judged(verdict_of(settings, past.list(), t, user, *named, *right))
         }
-        Event::Access(user, service) => access_of(alloc, settings, past, user, service)?,
+        Event::Access(user, service) => {
+            access_of(alloc, settings, past, ruling, user, service)?
+        },
         Event::Kept(_) => Reply::Held,
         _ => reply_under_number(settings, past, number, t, event),
     })

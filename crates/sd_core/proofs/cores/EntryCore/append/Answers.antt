@@ -8,6 +8,7 @@ use Rattle.sd_past.specs.Closing.{closes_place}
 use Rattle.sd_core.specs.Laws.{IsKept}
 use Rattle.sd_core.specs.Sound.{IsSound}
 use Rattle.sd_core.proofs.HeldLaws.{falls_below, held_after}
+use Rattle.sd_core.proofs.RuledLaws.{says_then}
 use Rattle.sd_core.proofs.cores.EntryCore.append.Goals as goal
 
 pub put-requires-clause-numbers : goal.put-requires-clause-numbers
@@ -23,8 +24,10 @@ put-requires-clause-none g c =
     subst (λ (d : Daemon). closes_place d.past c.args.entry.event ≡ true → takes_none c.args.entry ≡ true) (sym c.self.view_is) c.requires.none
 
 pub invariant_of-self-2 : goal.invariant_of-self-2
-invariant_of-self-2 g c =
-    held_after c.self.inside.settings c.self.inside.next c.self.inside.floor c.self.inside.text_bytes c.of_event.result c.self.inside.has_stopped c.stops_after-has_stopped.result
-    (g.P.Past.entries c.self.inside.past) (g.P.Past.entries c.put.new.self) c.args.entry c.self.invariant c.in_ok-put.ensures.ok c.of_event.ensures c.stops_after-has_stopped.ensures
-    (subst (λ (d : Daemon). IsSound (recorded d c.args.entry)) (sym c.self.view_is) c.requires.sound)
-    (subst (λ (d : Daemon). IsKept (recorded d c.args.entry)) (sym c.self.view_is) c.requires.kept)
+invariant_of-self-2 g c = (
+  held_after c.self.inside.settings c.self.inside.next c.self.inside.floor c.self.inside.text_bytes c.of_event.result c.self.inside.has_stopped c.stops_after-has_stopped.result
+      (g.P.Past.entries c.self.inside.past) (g.P.Past.entries c.put.new.self) c.args.entry c.self.invariant.0 c.in_ok-put.ensures.ok c.of_event.ensures c.stops_after-has_stopped.ensures
+      (subst (λ (d : Daemon). IsSound (recorded d c.args.entry)) (sym c.self.view_is) c.requires.sound)
+      (subst (λ (d : Daemon). IsKept (recorded d c.args.entry)) (sym c.self.view_is) c.requires.kept),
+  says_then g.R.Ruling.Says (g.P.Past.entries c.self.inside.past) (g.P.Past.entries c.put.new.self) c.args.entry c.in-Ok.ruling c.self.inside.ruling c.keep.new.kept c.in-Ok.ensures.made c.self.invariant.1 c.keep.ensures c.in_ok-put.ensures.ok,
+)

@@ -16,4 +16,4 @@ returns-clause-closing g c = λ h.
 pub given_by-requires : goal.given_by-requires
 given_by-requires g c =
     subst (λ (es : List Entry). falls es ≡ true) (sym c.list.ensures)
-    (falls_if_sound c.self.inside.next (g.P.Past.entries c.self.inside.past) c.self.invariant.sound.numbers)
+    (falls_if_sound c.self.inside.next (g.P.Past.entries c.self.inside.past) c.self.invariant.0.sound.numbers)
