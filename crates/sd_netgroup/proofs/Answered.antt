@@ -45,7 +45,7 @@ SaysOf entries base q = Says entries base q.name (called_by q)
 says_of : {L : Type 0} (t : Telling L) (base : List ℕ) (old : Talk L) (q : Query) (new : Talk L) (b : Behind) → Went t old (exchange_of base q) new → Stands t old b → Gave q.searched → SaysOf b.entries base q
 says_of t base old q new b w s g =
     subst (λ (es : List DirEntry). Says b.entries base q.name (called_in q.name es))
-    (sym (given_sent b.entries (net_search base q.name) q.searched g (answered b (length old.received) old.next (net_search base q.name) q.searched (plain base q.name) (w.by_directory b s.is s.short s.quiet))))
+    (sym (given_sent b.entries (net_search base q.name) q.searched g (answered b (length old.received) old.next (net_search base q.name) q.searched (plain base q.name) (w.by_directory b s.is s.quiet))))
     (says b.entries base q.name)
 
 abbrev pub AllSay : List DirEntry → List ℕ → List Query → Type 0

@@ -1,5 +1,5 @@
 -- The output of a scenario that a full journal ends.
-use Rattle.std.proofs.Common.{◌≡◌, ◌∙◌, ℕ, true, List, ◌∷◌, ◌++◌, Result, Err, ap, sym, subst}
+use Rattle.std.proofs.Common.{◌≡◌, ◌∙◌, ℕ, true, false, List, ◌∷◌, ◌++◌, Result, Err, ap, sym, subst}
 use Rattle.sd_layout.specs.declared.blocks.Statement.{Statement}
 use Rattle.sd_lines.specs.declared.lines.Line.{Line}
 use Rattle.sd_scenario.specs.Prints.{full_line}
