@@ -121,6 +121,9 @@ on_bounded w (s ∷ rest) h = after_bounded (line_done w s.line) (λ v. transcri
 pub starts_bounded : (w : World) (c : Config) (body : List Statement) → w ≡ start c → (transcript_on w body).is_endless ≡ false
 starts_bounded w c body is = subst (λ (v : World). (transcript_on v body).is_endless ≡ false) (sym is) (on_bounded (start c) body (start_bounded c))
 
+pub begun_bounded : (c : Config) (body : List Statement) → (transcript_on (start c) body).is_endless ≡ false
+begun_bounded c body = on_bounded (start c) body (start_bounded c)
+
 by_config : (r : Result Config ℕ) (body : List Statement) → (transcript_by r body).is_endless ≡ false
 by_config (Ok c) body = on_bounded (start c) body (start_bounded c)
 by_config (Err n) body = refl

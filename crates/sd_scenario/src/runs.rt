@@ -51,7 +51,7 @@ fn do_lines(
     Ok(true)
 }
 
-#[tactic(auto, using(crate::proofs::LineLaws::starts_bounded))]
+#[tactic(auto, using(crate::proofs::LineLaws::begun_bounded))]
 /// Carries out the lines of a scenario of this configuration; the first has the number `first`.
 pub fn run(
     alloc: Global,

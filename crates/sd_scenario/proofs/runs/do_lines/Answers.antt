@@ -11,7 +11,7 @@ use Rattle.sd_scenario.proofs.runs.do_lines.Goals as goal
 pub do_line-requires : goal.do_line-requires
 do_line-requires c =
     let begins : statements_of c.loop-left.number (words.pieces_in 10 (option_copied c.loop-left.left)) ≡ c.in_ok-next.next.statement ∷ statements_of c.in_ok-next.next.number (words.pieces_in 10 (option_copied c.in_ok-next.next.rest)) = rw c.in-Some.is c.in_ok-next.ensures.told in
-    line_of_bounded c.loop-left.world c.args.world.now c.in_ok-next.next.statement _ _ (statements_of c.args.first (words.pieces_in 10 (option_copied c.args.body))) begins c.loop-left.invariant.told c.requires.bounded
+    record { bounded = line_of_bounded c.loop-left.world c.args.world.now c.in_ok-next.next.statement _ _ (statements_of c.args.first (words.pieces_in 10 (option_copied c.args.body))) begins c.loop-left.invariant.told c.requires.bounded }
 
 pub returns-in-Err-Full : goal.returns-in-Err-Full
 returns-in-Err-Full c =
