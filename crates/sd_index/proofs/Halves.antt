@@ -3,7 +3,7 @@ use Rattle.std.proofs.Common.{◌≡◌, ℕ, ◌<◌, ◌≤◌, Bool, true, fa
 use Rattle.std.proofs.lemmas.List.{append_assoc, reverse-append, length-drop, get_or-drop, take-append-drop}
 use Rattle.sd_rules.specs.declared.replies.Entry.{Entry}
 use Rattle.sd_index.specs.Entries.{numbers_fall, falls, entry_at, Searches}
-use Rattle.sd_index.proofs.FallLaws.{both_of_two, first_of_two, head_below, tail_falls, falls_from_some, falls_of, not_same_above, none_from}
+use Rattle.sd_index.proofs.FallLaws.{both_of_two, first_of_two, head_below, tail_falls, falls_from_some, falls_of, not_same_above, none_from, same_self}
 
 -- entries that stand after others have greater numbers
 above : (xs : List Entry) (e : Entry) (past : List Entry) (n : ℕ) → numbers_fall n (xs ++ e ∷ past) ≡ true → e.number < n
@@ -131,3 +131,29 @@ numbers_before entries i e h lt is =
     let some : (n : ℕ) × (numbers_fall n (reverse (drop 1 (drop i entries)) ++ e ∷ reverse (take i entries)) ≡ true) =
     falls_from_some (reverse (drop 1 (drop i entries)) ++ e ∷ reverse (take i entries)) (ap falls (sym split) ∙ h) in
     last_falls (reverse (drop 1 (drop i entries))) e (reverse (take i entries)) some.0 some.1
+
+-- ---- an entry that stands at a place
+
+at_itself : (xs : List Entry) (e : Entry) (past : List Entry) (n : ℕ) → numbers_fall n (xs ++ e ∷ past) ≡ true → entry_at (xs ++ e ∷ past) e.number ≡ Some e
+at_itself [] e past n h = ap (λ (b : Bool). cond b (Some e) (entry_at past e.number)) (same_self e.number)
+at_itself (x ∷ xs) e past n h =
+    let rest : numbers_fall x.number (xs ++ e ∷ past) ≡ true = tail_falls n x (xs ++ e ∷ past) h in
+    ap (λ (b : Bool). cond b (Some x) (entry_at (xs ++ e ∷ past) e.number)) (not_same_above x.number e.number (above xs e past x.number rest))
+    ∙ at_itself xs e past x.number rest
+
+parted_at : (xs : List Entry) (p : ℕ) (e : Entry) → p < length xs → e ≡ get_or xs p e → (older : List Entry) × ((rest : List Entry) × (xs ≡ older ++ e ∷ rest))
+parted_at [] p e h is = absurd (omega (arith, h))
+parted_at (x ∷ xs) zero e h is = ([], (xs, ap (λ (y : Entry). y ∷ xs) (sym is)))
+parted_at (x ∷ xs) (suc p) e h is = let rest = parted_at xs p e (omega (arith, h)) is in (x ∷ rest.0, (rest.1.0, ap (λ (ys : List Entry). x ∷ ys) rest.1.1))
+
+found_in : (older : List Entry) (e : Entry) (rest : List Entry) → falls (reverse (older ++ e ∷ rest)) ≡ true → entry_at (reverse (older ++ e ∷ rest)) e.number ≡ Some e
+found_in older e rest h =
+    let some = falls_from_some (reverse rest ++ e ∷ reverse older) (ap falls (sym (by_halves older e rest)) ∙ h) in
+    ap (λ (es : List Entry). entry_at es e.number) (by_halves older e rest) ∙ at_itself (reverse rest) e (reverse older) some.0 some.1
+
+pub found_at : (xs : List Entry) (p n : ℕ) (e : Entry) → falls (reverse xs) ≡ true → p < length xs → e ≡ get_or xs p e → e.number ≡ n → entry_at (reverse xs) n ≡ Some e
+found_at xs p n e h within at is =
+    let parts = parted_at xs p e within at in
+    let found : entry_at (reverse xs) e.number ≡ Some e =
+    subst (λ (ys : List Entry). entry_at (reverse ys) e.number ≡ Some e) (sym parts.1.1) (found_in parts.0 e parts.1.0 (subst (λ (ys : List Entry). falls (reverse ys) ≡ true) parts.1.1 h)) in
+    subst (λ (m : ℕ). entry_at (reverse xs) m ≡ Some e) is found

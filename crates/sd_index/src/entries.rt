@@ -1,5 +1,5 @@
-// The entry of a number, sought by halves, since the numbers of a journal rise.
-ghost use Rattle.std.specs.Prelude.{◌≡◌, ◌<◌, ◌≤◌, true, length, reverse};
+// The entry of a number, tried where it stands if no number is missing, and sought by halves, since the numbers of a journal rise.
+ghost use Rattle.std.specs.Prelude.{◌≡◌, ◌<◌, ◌≤◌, true, length, reverse, Some, IfSome};
 ghost use Rattle.std.specs.Option.{option_copied};
 ghost use Rattle.sd_rules.specs.Past as past;
 ghost use Rattle.sd_rules.specs.Steps as steps;
@@ -36,9 +36,8 @@ fn only(part: &[Entry], number: u64) -> Option<&Entry>
     }
 }
 
-/// The entry of a number in a list whose numbers rise.
 #[tactic(auto, using(crate::proofs::Halves::searches_on, crate::proofs::Halves::searches_all))]
-pub fn entry_of(entries: &[Entry], number: u64) -> Option<&Entry>
+fn entry_by_halves(entries: &[Entry], number: u64) -> Option<&Entry>
     requires { found.falls (reverse entries.now) ≡ true }
     ensures { option_copied result ≡ found.entry_at (reverse entries.now) number }
 {
@@ -47,6 +46,44 @@ pub fn entry_of(entries: &[Entry], number: u64) -> Option<&Entry>
         part = half(part, number);
     }
     only(part, number)
+}
+
+/// The entry of a number, if it stands at this place.
+#[tactic(auto, using(crate::proofs::Halves::found_at))]
+fn entry_if_at(entries: &[Entry], place: u64, number: u64) -> Option<&Entry>
+    requires { found.falls (reverse entries.now) ≡ true }
+    ensures { IfSome (option_copied result) (λ entry. found.entry_at (reverse entries.now) number ≡ Some entry) }
+{
+    let place = place as usize;
+    if place >= entries.len() {
+        return None;
+    }
+    let entry = &entries[place];
+    if entry.number == number {
+        Some(entry)
+    } else {
+        None
+    }
+}
+
+/// The entry of a number in a list whose numbers rise. It is tried first where it stands if no number behind the first one is
+/// missing, or none before the last one: so a journal of which nothing was forgotten is not searched, nor what came since.
+pub fn entry_of(entries: &[Entry], number: u64) -> Option<&Entry>
+    requires { found.falls (reverse entries.now) ≡ true }
+    ensures { option_copied result ≡ found.entry_at (reverse entries.now) number }
+{
+    let ([first, ..], [.., last]) = (entries, entries) else {
+        return entry_by_halves(entries, number);
+    };
+    if let Some(entry) = entry_if_at(entries, number.saturating_sub(first.number), number) {
+        return Some(entry);
+    }
+    let later = last.number.saturating_sub(number).saturating_add(1);
+    let place = (entries.len() as u64).saturating_sub(later);
+    if let Some(entry) = entry_if_at(entries, place, number) {
+        return Some(entry);
+    }
+    entry_by_halves(entries, number)
 }
 
 /// The event of the entry of a number.
