@@ -9,6 +9,7 @@ use Rattle.sd_rules.specs.KeptRows.{opened, rows_of}
 use Rattle.sd_rules.specs.Needed.{needed}
 use Rattle.sd_rules.specs.Steps.{Daemon, recorded}
 use Rattle.sd_rules.specs.TextBytes.{bytes_of_event, bytes_of_row, text_bytes}
+use Rattle.sd_keeping.specs.Counts.{HasCounts}
 use Rattle.sd_index.specs.Entries.{numbers_fall, falls}
 use Rattle.sd_rows.specs.Kept.{Keeps}
 use Rattle.sd_core.specs.Held.{daemon_of, IsHeld}
@@ -27,6 +28,10 @@ numbers_same n (e ∷ past) = ap (λ (b : Bool). nat_lt e.number n && b) (number
 pub falls_if_sound : (next : ℕ) (past : List Entry) → falls_from next past ≡ true → falls past ≡ true
 falls_if_sound next [] h = refl
 falls_if_sound next (e ∷ past) h = sym (numbers_same e.number past) ∙ second_holds (nat_lt e.number next) (falls_from e.number past) h
+
+-- the wrong guesses that count are numbers of 64 bits
+pub counts_if_sound : (d : Daemon) → IsSound d → HasCounts d.past
+counts_if_sound d sound = record { fits = λ user. omega (arith, sound.wrongs.fewer user, sound.room) }
 
 -- as many entries as there are numbers below the next
 pub entries_below : (n : ℕ) (past : List Entry) → falls_from n past ≡ true → length past ≤ n

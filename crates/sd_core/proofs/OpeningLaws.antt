@@ -19,6 +19,7 @@ use Rattle.sd_rules.specs.Steps.{Daemon}
 use Rattle.sd_rules.specs.TextBytes.{bytes_of_row, text_bytes}
 use Rattle.sd_forgetting.proofs.Opened.{rows_orderly}
 use Rattle.sd_forgetting.proofs.Orders.{orderly_first}
+use Rattle.sd_core.specs.Noted.{HadCounts}
 use Rattle.sd_core.specs.Laws.{IsKept, are_asked_since, are_own_outages}
 use Rattle.sd_core.specs.Sound as sound
 use Rattle.sd_core.specs.Sound.{all_name_earlier, moments_rise, falls_from, holds_kind, holds_kinds, row_holders, closes_once, IsSound}
@@ -353,6 +354,22 @@ sound_at_first s (head ∷ others) servers few fits h =
     let fewer : length (reverse others) < 2 ^ 32 - 1 = omega (arith, length-reverse others, few) in
     subst IsSound (sym (opened_as s head others))
     (sound_by s head (reverse others) servers fewer fits good (head_above head good_head))
+
+-- the wrong guesses that count after each row
+counted_by : (head : Row) (rs : List Row) → row_number head ≤ 2 ^ 64 - 1 → are_good head rs ≡ true → 0 < row_number head → HadCounts (entries_of rs)
+counted_by head [] fits good z = record { fits = λ user. omega arith }
+counted_by head (row ∷ rs) fits good z = (
+  record { fits = λ user. omega (arith, few_wrongs head (row ∷ rs) user good, last_below head (row ∷ rs) good z, fits) },
+  counted_by head rs fits (rest_good head row rs good) z,
+)
+
+pub counted_at_first : (s : Settings) (rs : List Row) → (opened s rs).next ≤ 2 ^ 64 - 1 → bad_row rs ≡ None → HadCounts (opened s rs).past
+counted_at_first s [] fits h = record { fits = λ user. omega arith }
+counted_at_first s (head ∷ others) fits h =
+    let good_head = good_row_by (is_good_head head) 0 (first_bad head [] 1 others) h in
+    let good = good_others head others (good_on (is_good_head head) 0 (first_bad head [] 1 others) h) in
+    subst (λ (d : Daemon). HadCounts d.past) (sym (opened_as s head others))
+    (counted_by head (reverse others) fits good (head_above head good_head))
 
 pub kept_at_first : (s : Settings) (rs : List Row) → bad_row rs ≡ None → IsKept (opened s rs)
 kept_at_first s [] h = record {

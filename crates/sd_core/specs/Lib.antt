@@ -8,3 +8,4 @@ pub mod Held
 pub mod Growth
 pub mod Lists
 pub mod Ruled
+pub mod Noted

@@ -15,6 +15,7 @@ ghost use Rattle.sd_core.specs.Opens as opens;
 ghost use Rattle.sd_core.specs.Sound as sound;
 ghost use Rattle.sd_core.specs.declared.cores.OpenFault.TheVariants as faults;
 
+use crate::books::{LoginBook, NoBook, UserBook};
 use crate::given::given_by;
 use crate::opens::is_open;
 use crate::replies::{reply_to, reply_to_collect};
@@ -34,7 +35,7 @@ const TEXT_LIMIT: u64 = 512 * 1024 * 1024;
 
 /// A core over the entries made so far, kept one way or another.
 #[derive(Drop)]
-pub struct EntryCore<P: Past, R: Ruling> {
+pub struct EntryCore<P: Past, R: Ruling, L: LoginBook> {
     alloc: Global,
     settings: Settings,
     next: u64,
@@ -43,9 +44,10 @@ pub struct EntryCore<P: Past, R: Ruling> {
     has_stopped: bool,
     past: P,
     ruling: R,
+    logins: L,
 }
 
-impl<P: Past, R: Ruling> Model for EntryCore<P, R> {
+impl<P: Past, R: Ruling, L: LoginBook> Model for EntryCore<P, R, L> {
     ghost use Rattle.sd_rules.specs.declared.keys.Key.TheVariants as keys;
     ghost use Rattle.sd_rules.specs.Past as answers;
     ghost use Rattle.sd_rules.specs.Steps as steps;
@@ -55,14 +57,14 @@ impl<P: Past, R: Ruling> Model for EntryCore<P, R> {
 
     ghost view = { λ c. held.daemon_of c.settings c.next c.floor (P.entries c.past) };
 
-    ghost invariant = { λ c. (held.IsHeld c.settings c.next c.floor c.text_bytes c.has_stopped (P.entries c.past)) × (R.Says c.ruling (answers.newest (P.entries c.past) keys.Rules)) };
+    ghost invariant = { λ c. (held.IsHeld c.settings c.next c.floor c.text_bytes c.has_stopped (P.entries c.past)) × ((R.Says c.ruling (answers.newest (P.entries c.past) keys.Rules)) × (L.Says c.logins (P.entries c.past))) };
 }
 
-/// A core that seeks each answer in the list of its entries, and reads the access rules there.
-pub type PlainCore = EntryCore<ListedPast, Unkept>;
+/// A core that seeks each answer in the list of its entries, and reads the access rules and the logins there.
+pub type PlainCore = EntryCore<ListedPast, Unkept, NoBook>;
 
-/// A core that answers from an index beside the list, without a walk, and checks accounts by compiled rules.
-pub type IndexedCore = EntryCore<IndexedPast, Compiled>;
+/// A core that answers from an index beside the list and from marks of users, without a walk, and checks accounts by compiled rules.
+pub type IndexedCore = EntryCore<IndexedPast, Compiled, UserBook>;
 
 /// Why a core is not opened.
 #[derive(Clone, Copy, Debug, PartialEq, Eq)]
@@ -152,7 +154,7 @@ fn gives_back<P: Past>(past: &P, event: &Event) -> bool
     }
 }
 
-impl<P: Past, R: Ruling> EntryCore<P, R> {
+impl<P: Past, R: Ruling, L: LoginBook> EntryCore<P, R, L> {
     /// A core with kept rows: an entry for each but the head. Without rows it has none. At most 64 servers. Where keys and names are
     /// hashed, the secret keeps whoever chooses them from choosing their hashes.
     pub fn open_keyed(
@@ -160,7 +162,7 @@ impl<P: Past, R: Ruling> EntryCore<P, R> {
         settings: Settings,
         rows: Rows,
         secret: &[u8],
-    ) -> Result<EntryCore<P, R>, OpenFault>
+    ) -> Result<EntryCore<P, R, L>, OpenFault>
         requires servers { settings.primaries + settings.backups ≤ 64 }
         requires few { length rows < 2 ^ 32 }
         ensures opened { IfOk result (λ core. core ≡ kept.opened settings rows) }
@@ -178,6 +180,7 @@ impl<P: Past, R: Ruling> EntryCore<P, R> {
         } = opened(alloc, &rows)?;
         let text_bytes = of_entries(entries.as_slice());
         let has_stopped = has_stopped(entries.as_slice());
+        let logins = L::read(alloc, entries.as_slice())?;
         let past = P::open(alloc, entries, secret)?;
         let ruling = R::of(alloc, past.newest(&Key::Rules))?;
         Ok(EntryCore {
@@ -189,11 +192,12 @@ impl<P: Past, R: Ruling> EntryCore<P, R> {
             has_stopped,
             past,
             ruling,
+            logins,
         })
     }
 
     /// A core with kept rows, whose hashes may be known.
-    pub fn open(alloc: Global, settings: Settings, rows: Rows) -> Result<EntryCore<P, R>, OpenFault>
+    pub fn open(alloc: Global, settings: Settings, rows: Rows) -> Result<EntryCore<P, R, L>, OpenFault>
         requires servers { settings.primaries + settings.backups ≤ 64 }
         requires few { length rows < 2 ^ 32 }
         ensures opened { IfOk result (λ core. core ≡ kept.opened settings rows) }
@@ -306,6 +310,7 @@ impl<P: Past, R: Ruling> EntryCore<P, R> {
             &self.settings,
             &self.past,
             &self.ruling,
+            &self.logins,
             number,
             moment,
             event,
@@ -329,7 +334,7 @@ impl<P: Past, R: Ruling> EntryCore<P, R> {
         let Ok(ruling) = ruling_by(self.alloc, &self.past, &entry) else {
             return Err(entry.event);
         };
-        self.past.put(entry)?;
+        self.logins.put(&mut self.past, entry)?;
         keep(&mut self.ruling, ruling);
         self.next = next;
         self.text_bytes = text_bytes;
@@ -383,7 +388,7 @@ impl<P: Past, R: Ruling> EntryCore<P, R> {
         ensures back { IfOk result (λ dropped. reverse dropped ≡ needed.forgotten self.old.past) }
         ensures unchanged { OnErr result (self.new ≡ self.old) }
     {
-        let dropped = self.past.forget(self.alloc)?;
+        let dropped = self.logins.forget(self.alloc, &mut self.past)?;
         self.text_bytes = of_entries(self.past.list());
         self.has_stopped = has_stopped(self.past.list());
         Ok(dropped)

@@ -2,10 +2,12 @@
 #![tactic(auto)]
 
 pub mod access;
+pub mod books;
 pub mod cores;
 pub mod daemon;
 pub mod given;
 pub mod lists;
+pub mod notes;
 pub mod opens;
 pub mod replies;
 pub mod rulings;

@@ -8,6 +8,7 @@ ghost use Rattle.sd_core.specs.Laws as laws;
 ghost use Rattle.sd_core.specs.Lists as lists;
 ghost use Rattle.sd_core.specs.declared.lists.ListFault.TheVariants as faults;
 
+use crate::books::LoginBook;
 use crate::cores::EntryCore;
 use crate::daemon::Core;
 use crate::rulings::Ruling;
@@ -44,7 +45,7 @@ pub trait Answers {
         ensures closing { closes_place (daemon self.old).past event ≡ true → IsOk result };
 }
 
-impl<P: Past, R: Ruling> Answers for EntryCore<P, R> {
+impl<P: Past, R: Ruling, L: LoginBook> Answers for EntryCore<P, R, L> {
     ghost daemon = { λ c. c };
 
     fn answer(&mut self, now: u64, event: Event) -> Result<Given, Refused> {

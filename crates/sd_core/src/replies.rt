@@ -9,11 +9,12 @@ ghost use Rattle.sd_journal.specs.Seen as seen;
 ghost use Rattle.sd_core.specs.Numbered as replies;
 
 use crate::access::access_of;
+use crate::books::LoginBook;
 use crate::opens::is_open;
 use crate::rulings::Ruling;
 use sd_base::{Memory, Text};
 use sd_journal::answers::is_found;
-use sd_journal::logins::{Login, cached_login, usable_hash, user_of, verdict_of, verdict_of_try};
+use sd_journal::logins::user_of;
 use sd_journal::past::{Standing, key_of, voids};
 use sd_journal::requests::outcome_of;
 use sd_journal::servers::was_picked;
@@ -156,56 +157,53 @@ fn reply_by_cached(number: u64, login: Option<u64>) -> Reply
     }
 }
 
-fn reply_to_login<P: Past>(
+fn reply_to_login<P: Past, L: LoginBook>(
     settings: &Settings,
     past: &P,
+    logins: &L,
     number: u64,
     t: u64,
     user: &Text,
     outage: Option<u64>,
 ) -> Reply
+    requires { L.Says logins.now (P.entries past.now) }
     ensures { result ≡ steps.reply_to_login settings.now (P.entries past.now) number t user.now outage }
 {
     match outage {
         Some(outage) => Reply::Offline(outage),
-        None => reply_by_cached(number, cached_login(settings, past.list(), t, user)),
+        None => reply_by_cached(number, logins.cached(settings, past, t, user)),
     }
 }
 
-fn reply_to_look(login: Option<Login>) -> Reply
-    ensures { result ≡ steps.reply_to_look (option_map seen.login login) }
-{
-    match login {
-        Some(login) => Reply::Hash(login.number),
-        None => Reply::NoHash,
-    }
-}
-
-fn reply_to_try<P: Past>(
+fn reply_to_try<P: Past, L: LoginBook>(
     settings: &Settings,
     past: &P,
+    logins: &L,
     t: u64,
     named: u64,
     right: bool,
     user: Option<&Text>,
 ) -> Reply
+    requires { L.Says logins.now (P.entries past.now) }
     ensures { result ≡ steps.reply_to_try settings.now (P.entries past.now) t named right (option_copied user.entry) }
 {
     match user {
-        Some(user) => { Reply::Tried(verdict_of_try(settings, past.list(), t, user, named, right)) }
+        Some(user) => { Reply::Tried(logins.verdict_of_try(settings, past, t, user, named, right)) }
         None => Reply::NoRequest,
     }
 }
 
 /// The reply to an event that names a request or an attempt. Here any other has NoRequest, too.
-fn reply_under_number<P: Past>(
+fn reply_under_number<P: Past, L: LoginBook>(
     settings: &Settings,
     past: &P,
+    logins: &L,
     number: u64,
     t: u64,
     event: &Event,
 ) -> Reply
-    requires { settings.now.primaries + settings.now.backups < 2 ^ 32 }
+    requires servers { settings.now.primaries + settings.now.backups < 2 ^ 32 }
+    requires logins { L.Says logins.now (P.entries past.now) }
     ensures { replies.names_number event.now ≡ true → result ≡ steps.reply_to settings.now (P.entries past.now) number t event.now }
 {
     match event {
@@ -229,18 +227,19 @@ fn reply_under_number<P: Past>(
         Event::Abandon(n) if is_open(past, *n) => Reply::Closed,
         Event::LoginOnline(n, _) if past.is_open_attempt(*n) => Reply::Closed,
         Event::LoginTry(n, named, right) if past.is_open_attempt(*n) => {
-            reply_to_try(settings, past, t, *named, *right, user_of(past.list(), *n))
+            reply_to_try(settings, past, logins, t, *named, *right, user_of(past.list(), *n))
         }
         _ => Reply::NoRequest,
     }
 }
 
 /// The reply to an event, over the entries before it; `number` and `t` are the number and the moment of its own entry.
-pub fn reply_to<P: Past, R: Ruling>(
+pub fn reply_to<P: Past, R: Ruling, L: LoginBook>(
     alloc: Global,
     settings: &Settings,
     past: &P,
     ruling: &R,
+    logins: &L,
     number: u64,
     t: u64,
     event: &Event,
@@ -248,6 +247,7 @@ pub fn reply_to<P: Past, R: Ruling>(
     requires servers { settings.now.primaries + settings.now.backups < 2 ^ 32 }
     requires texts { bytes.text_bytes (P.entries past.now) < 2 ^ 32 }
     requires says { R.Says ruling.now (answers.newest (P.entries past.now) keys.Rules) }
+    requires logins { L.Says logins.now (P.entries past.now) }
     ensures made { IfOk result (λ reply. reply ≡ steps.reply_to settings.now (P.entries past.now) number t event.now) }
     ensures free { replies.is_access event.now ≡ false → IsOk result }
 {
@@ -258,16 +258,16 @@ pub fn reply_to<P: Past, R: Ruling>(
         Event::Void(_) | Event::Offline | Event::Online | Event::Stop => Reply::Done,
         Event::LoginOpen(user) => {
             let outage = past.outage_at(settings.offline_timeout, t);
-            reply_to_login(settings, past, number, t, user, outage)
+            reply_to_login(settings, past, logins, number, t, user, outage)
         }
-        Event::LoginLook(user) => reply_to_look(usable_hash(settings, past.list(), user)),
+        Event::LoginLook(user) => logins.reply_to_look(settings, past, user),
         Event::LoginGuess(user, named, right) => {
-            Reply::Judged(verdict_of(settings, past.list(), t, user, *named, *right))
+            Reply::Judged(logins.verdict(settings, past, t, user, *named, *right))
         }
         Event::Access(user, service) => {
             access_of(alloc, settings, past, ruling, user, service)?
         },
         Event::Kept(_) => Reply::Held,
-        _ => reply_under_number(settings, past, number, t, event),
+        _ => reply_under_number(settings, past, logins, number, t, event),
     })
 }

@@ -4,7 +4,7 @@ ghost use Rattle.sd_rules.specs.declared.replies.Entry.{Entry};
 ghost use Rattle.sd_rules.specs.Steps.{is_steppable};
 
 use crate::kinds::Kind;
-use crate::world::{name, text};
+use crate::world::{HASH, name, text};
 use sd_base::Memory;
 use sd_rules::{Event, Key};
 use std::alloc::Global;
@@ -15,7 +15,11 @@ pub fn is_taken(event: &Event) -> bool
 {
     matches!(
         event,
-        Event::Ask(_) | Event::Leave(_) | Event::LoginLook(_) | Event::Access(_, _)
+        Event::Ask(_)
+            | Event::Leave(_)
+            | Event::LoginLook(_)
+            | Event::LoginGuess(_, _, _)
+            | Event::Access(_, _)
     )
 }
 
@@ -49,6 +53,7 @@ fn event_of(alloc: Global, kind: Kind, next: u64, step: u32, users: u32) -> Resu
             Ok(Event::Leave(ticket))
         }
         Kind::Look => Ok(Event::LoginLook(name(alloc, 0)?)),
+        Kind::Guess => Ok(Event::LoginGuess(name(alloc, 0)?, HASH, false)),
         Kind::Access100 | Kind::Access1000 => {
             Ok(Event::Access(name(alloc, 0)?, text(alloc, b"sshd")?))
         }

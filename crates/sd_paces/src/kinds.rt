@@ -1,5 +1,5 @@
 // The kinds of steps, and what is wanted of each.
-use sd_rules::{By, Reply};
+use sd_rules::{By, Reply, Verdict};
 
 /// What is asked again and again.
 #[derive(Clone, Copy, Debug, PartialEq, Eq)]
@@ -12,6 +12,8 @@ pub enum Kind {
     Joined,
     /// The stored hash of a user.
     Look,
+    /// A wrong guess by that hash.
+    Guess,
     /// An account check by 100 rules, the last of which grants.
     Access100,
     /// The same by 1,000 rules.
@@ -26,6 +28,7 @@ pub fn kind_of(word: &[u8]) -> Option<Kind> {
         b"gone" => Some(Kind::Gone),
         b"joined" => Some(Kind::Joined),
         b"look" => Some(Kind::Look),
+        b"guess" => Some(Kind::Guess),
         b"access100" => Some(Kind::Access100),
         b"access1000" => Some(Kind::Access1000),
         b"forget" => Some(Kind::Forget),
@@ -49,6 +52,7 @@ pub fn is_wanted(kind: Kind, reply: Reply) -> bool {
         Kind::Gone => matches!(reply, Reply::Gone(_)),
         Kind::Joined => matches!(reply, Reply::Join(_, _) | Reply::Left),
         Kind::Look => matches!(reply, Reply::Hash(_)),
+        Kind::Guess => matches!(reply, Reply::Judged(Verdict::Wrong)),
         Kind::Access100 | Kind::Access1000 => matches!(reply, Reply::Granted(By::Rule(_, _))),
     }
 }

@@ -9,6 +9,9 @@ use sd_rules::{
 };
 use std::alloc::Global;
 
+/// The number of the entry that holds the stored hash of the first user.
+pub const HASH: u64 = 4;
+
 pub fn text(alloc: Global, bytes: &[u8]) -> Result<Text, Memory> {
     Text::from_bytes(alloc, bytes)
 }
@@ -137,7 +140,7 @@ pub fn rows(alloc: Global, kind: Kind, users: u32) -> Result<Rows, Memory> {
         salt: [1; 16],
         digest: [2; 64],
     };
-    rows.push(Row::Hash(4, 0, name(alloc, 0)?, hash))?;
+    rows.push(Row::Hash(HASH, 0, name(alloc, 0)?, hash))?;
     for number in 0..users {
         let answered = found_user(alloc, kind, number)?;
         let key = Key::User(name(alloc, number)?);

@@ -5,13 +5,15 @@ use Rattle.sd_rules.specs.declared.replies.Entry.{Entry}
 use Rattle.sd_rules.specs.Past.{Standing}
 use Rattle.sd_journal.specs.Seen.{standing}
 use Rattle.sd_rules.specs.KeptRows.{bad_row}
+use Rattle.sd_rules.specs.Steps.{Daemon}
 use Rattle.sd_rules.specs.TextBytes.{text_bytes}
 use Rattle.sd_core.specs.Held.{daemon_of}
 use Rattle.sd_core.specs.Laws.{IsKept}
 use Rattle.sd_core.specs.Looks.{has_stopped}
+use Rattle.sd_core.specs.Noted.{HadCounts}
 use Rattle.sd_core.specs.Sound.{IsSound}
 use Rattle.sd_core.proofs.HeldLaws.{falls_if_sound, held_at_first, next_at_first}
-use Rattle.sd_core.proofs.OpeningLaws.{bad_row_within, kept_at_first, sound_at_first}
+use Rattle.sd_core.proofs.OpeningLaws.{bad_row_within, counted_at_first, kept_at_first, sound_at_first}
 use Rattle.sd_core.proofs.RuledLaws.{opened_below}
 use Rattle.sd_core.proofs.cores.EntryCore.open_keyed.Goals as goal
 
@@ -40,8 +42,19 @@ invariant_of-result g c =
           (sound_at_first c.args.settings c.args.rows c.requires.servers c.requires.few
           (next_at_first c.args.settings c.args.rows c.in_ok-next.field-0.next c.in_ok-next.field-0.floor (reverse c.in_ok-next.field-0.entries.items) is (omega arith)) good)
           (kept_at_first c.args.settings c.args.rows good),
-      subst (λ (o : Option Standing). g.R.Ruling.Says c.in_ok-ruling.ruling o) c.newest.ensures c.in_ok-ruling.ensures,
+      (subst (λ (o : Option Standing). g.R.Ruling.Says c.in_ok-ruling.ruling o) c.newest.ensures c.in_ok-ruling.ensures,
+          subst (λ (es : List Entry). g.L.LoginBook.Says c.in_ok-logins.logins es) (sym c.in_ok-past.ensures)
+          (subst (λ (es : List Entry). g.L.LoginBook.Says c.in_ok-logins.logins (reverse es)) c.as_slice-3.ensures.value c.in_ok-logins.ensures)),
     )
+
+pub read-requires : goal.read-requires
+read-requires g c =
+    let good : bad_row c.args.rows ≡ None = search rules in
+    let is = c.in_ok-next.ensures c.args.settings in
+    let had = counted_at_first c.args.settings c.args.rows
+    (next_at_first c.args.settings c.args.rows c.in_ok-next.field-0.next c.in_ok-next.field-0.floor (reverse c.in_ok-next.field-0.entries.items) is (omega arith)) good in
+    let here : HadCounts (reverse c.in_ok-next.field-0.entries.items) = subst (λ (d : Daemon). HadCounts d.past) (sym is) had in
+    subst (λ (es : List Entry). HadCounts (reverse es)) (sym c.as_slice-3.ensures.value) here
 
 pub of-requires : goal.of-requires
 of-requires g c =
