@@ -1,34 +1,31 @@
 -- A forget keeps what holds of a kept journal.
-use Rattle.std.proofs.Common.{◌≡◌, ℕ, ◌<◌, ◌≤◌, ◌+◌, ◌-◌, ◌*◌, ◌^◌, Bool, true, false, List, [], ◌∷◌, length, reverse, arith, refl, sym, ap, subst, ◌∙◌, inl, inr}
-use Rattle.std.specs.Prelude.{Option, Some, None, not, is_some, nat_lt, nat_le, Result, Ok, Err, OnOk, OnErr, ◌⊎◌, ◌==◌, ◌&&◌, ◌||◌, if◌then◌else◌}
+use Rattle.std.proofs.Common.{◌≡◌, ℕ, ◌<◌, ◌≤◌, ◌+◌, ◌-◌, ◌*◌, ◌^◌, Bool, true, false, List, [], ◌∷◌, arith, refl, sym, ap, subst, ◌∙◌, inl, inr}
+use Rattle.std.specs.Prelude.{Option, Some, None, not, is_some, nat_lt, nat_le, Result, Ok, Err, OnOk, OnErr, ◌⊎◌, ◌&&◌, ◌||◌, if◌then◌else◌}
 use Rattle.std.proofs.lemmas.Bool.Decides.{nat_tests}
 use Rattle.sd_rules.specs.declared.keys.Key.{Key}
-use Rattle.sd_rules.specs.declared.records.Record.{Record}
 use Rattle.sd_rules.specs.declared.records.Answered.{Answered}
 use Rattle.sd_rules.specs.declared.events.Event.{Event}
 use Rattle.sd_rules.specs.declared.events.Event.TheVariants as events
 use Rattle.sd_rules.specs.declared.replies.Entry.{Entry}
 use Rattle.sd_rules.specs.declared.replies.Outcome.{Outcome}
-use Rattle.sd_rules.specs.declared.replies.Reply.{Reply}
-use Rattle.sd_rules.specs.Past.{Standing, is_closed, key_of, answer_in}
-use Rattle.sd_rules.specs.Requests.{is_open, is_open_request, is_open_attempt, waits_for, outcome_of, reserved_places}
-use Rattle.sd_rules.specs.Logins.{wrong_count}
-use Rattle.sd_rules.specs.Needed.{needed, is_needed, answer_of_outcome}
+use Rattle.sd_rules.specs.Past.{is_closed, key_of, answer_in}
+use Rattle.sd_rules.specs.Requests.{is_open_request, is_open_attempt, waits_for, outcome_of, reserved_places}
+use Rattle.sd_rules.specs.Needed.{needed, is_needed}
 use Rattle.sd_rules.specs.Reaching.{Reaches, Forget, after_forget}
-use Rattle.sd_rules.specs.Steps.{Daemon, void_since, event_at, record_in, event_named, answer_named_by_outcome}
+use Rattle.sd_rules.specs.Steps.{Daemon, void_since, record_in, event_named, answer_named_by_outcome}
 use Rattle.sd_rules.specs.TextBytes.{text_bytes}
-use Rattle.sd_forgetting.specs.Parts.{part, entry_at, IsAt, numbers_fall, moments_fall}
+use Rattle.sd_forgetting.specs.Parts.{part, IsAt, numbers_fall, moments_fall}
 use Rattle.sd_forgetting.specs.Orderly.{IsOrderly}
 use Rattle.sd_forgetting.specs.Kept.{IsKeptOf, Keeps}
 use Rattle.sd_forgetting.proofs.Answers.{answer_or_none}
 use Rattle.sd_forgetting.proofs.Asked.{asked_kept}
-use Rattle.sd_forgetting.proofs.Daemons.{over, places_same}
+use Rattle.sd_forgetting.proofs.Daemons.{places_same}
 use Rattle.sd_forgetting.proofs.Whole.{kept_itself}
 use Rattle.sd_forgetting.proofs.Forgets.{needed_kept, needed_orderly}
 use Rattle.sd_forgetting.proofs.Places.{needed_is_part, part_law, key_kept, key_or_none, numbers_before}
 use Rattle.sd_forgetting.proofs.Shown.{event_same, named_is_answer}
 use Rattle.sd_rules.proofs.ReachingLaws.{reaches_self}
-use Rattle.sd_core.specs.Sound.{falls_from, holds_row, row_holders, closed_by, is_closing_of, is_closed_among, closes_first, closes_once, named_by, names_earlier, all_name_earlier, last_moment, moments_rise, CountsFewWrongs, IsSound, holds_kind, holds_kinds, is_of_kind_of}
+use Rattle.sd_core.specs.Sound.{falls_from, holds_row, row_holders, closed_by, is_closing_of, is_closed_among, closes_first, closes_once, named_by, names_earlier, all_name_earlier, last_moment, moments_rise, IsSound, holds_kind, holds_kinds, is_of_kind_of}
 use Rattle.sd_core.specs.Laws.{HasOneOpen, HasFitTickets, IsKept, outcome_record, is_unvoided_since, is_asked_since, are_asked_since, is_own_outage, are_own_outages}
 use Rattle.sd_core.proofs.Room.{false_is_not_true}
 use Rattle.sd_core.proofs.KindLaws.{first_holds, second_holds, both_hold}

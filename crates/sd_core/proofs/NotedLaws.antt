@@ -1,6 +1,6 @@
 -- Marks say of each user what the entries say, after each entry and after a forget, and so judge a login as the entries do.
 use Rattle.std.proofs.Common.{◌≡◌, ◌≢◌, ℕ, suc, zero, ◌+◌, ◌==◌, ◌<◌, ◌^◌, Bool, true, false, cond, List, [], ◌∷◌, ◌++◌, length, reverse, take, drop, get_or, arith, refl, sym, ap, subst, ◌∙◌, add_comm}
-use Rattle.std.specs.Prelude.{Option, Some, None, ◌&&◌, ◌||◌, not, if◌then◌else◌, unwrap_or, is_some, Result, Ok, Err, OnOk, OnErr, IsOk}
+use Rattle.std.specs.Prelude.{Option, Some, None, ◌&&◌, not, if◌then◌else◌, unwrap_or, is_some, Result, Ok, Err, OnOk, OnErr, IsOk}
 use Rattle.std.specs.Option.{option_map}
 use Rattle.std.proofs.lemmas.Bool.Decides.{nat_tests}
 use Rattle.std.proofs.lemmas.List.{reverse-append, take_more, take-append-drop}
@@ -36,8 +36,7 @@ use Rattle.sd_creds.specs.Seen as seen
 use Rattle.sd_creds.proofs.Journal.{cached_login_of_journal, verdict_of_journal, verdict_of_try_of_journal, usable_hash_of_journal}
 use Rattle.sd_core.specs.declared.notes.LoginWord.{LoginWord}
 use Rattle.sd_core.specs.declared.notes.LoginWord.TheVariants as words
-use Rattle.sd_core.specs.declared.notes.Note.{Note}
-use Rattle.sd_core.specs.Noted.{user_of_row, user_concerned, word_of_login, word_of_guess, word_of_row, word_of, user_by_word, user_told, note_of, login_told, accept_told, wrongs_told, with_word, mark_with, SaysOf, SayOfUsers, HasMark, HasCount, Keeps, HadCounts, reply_by_hash}
+use Rattle.sd_core.specs.Noted.{user_of_row, user_concerned, word_of_login, word_of_guess, word_of_row, word_of, user_by_word, user_told, note_of, login_told, accept_told, wrongs_told, with_word, mark_with, SaysOf, SayOfUsers, HasCount, Keeps, HadCounts, reply_by_hash}
 use Rattle.sd_core.proofs.Room.{false_is_not_true}
 
 -- what an entry tells of a user's logins

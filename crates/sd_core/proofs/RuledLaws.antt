@@ -1,5 +1,5 @@
 -- Compiled rules say what the newest answer says, after each entry and after a forget.
-use Rattle.std.proofs.Common.{◌≡◌, ℕ, ◌+◌, ◌*◌, ◌<◌, ◌≤◌, ◌^◌, Bool, true, false, List, [], ◌∷◌, length, arith, refl, sym, ap, subst, ◌∙◌}
+use Rattle.std.proofs.Common.{◌≡◌, ℕ, ◌*◌, ◌<◌, ◌≤◌, ◌^◌, true, List, ◌∷◌, length, arith, refl, sym, ap, subst, ◌∙◌}
 use Rattle.std.specs.Prelude.{Option, Some, None}
 use Rattle.sd_rules.specs.declared.keys.Key.TheVariants as keys
 use Rattle.sd_rules.specs.declared.records.Answered.{Answered}
@@ -12,14 +12,14 @@ use Rattle.sd_rules.specs.declared.replies.Entry.{Entry}
 use Rattle.sd_rules.specs.Access.{Asker, granting_rule, reply_by_rule, reply_by_book}
 use Rattle.sd_rules.specs.Needed.{needed}
 use Rattle.sd_rules.specs.Past.{Standing, answer_by, answer_in, spoken, newest, or_else}
-use Rattle.sd_rules.specs.TextBytes.{bytes_of_event, bytes_of_answered, bytes_of_rule, bytes_of_service, text_bytes}
+use Rattle.sd_rules.specs.TextBytes.{bytes_of_answered, text_bytes}
 use Rattle.sd_hbac_sets.specs.Compiled.{granted}
 use Rattle.sd_forgetting.specs.Orderly.{IsOrderly}
 use Rattle.sd_forgetting.proofs.Forgets.{needed_kept}
 use Rattle.sd_past.specs.Closing.{closes_place}
 use Rattle.sd_core.specs.Bounds.{bytes_of_standing}
 use Rattle.sd_core.specs.declared.rulings.Numbered.{Numbered}
-use Rattle.sd_core.specs.Ruled.{book_in, IsCompiledOf, reply_by_compiled, SaysRules, SaysAfter, chosen}
+use Rattle.sd_core.specs.Ruled.{book_in, IsCompiledOf, SaysRules, SaysAfter, chosen}
 use Rattle.sd_core.proofs.Sizes.{rules_within_bytes, spoken_within, answer_within, newest_within}
 
 -- the reply by a book, where one was answered

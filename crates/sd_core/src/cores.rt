@@ -197,7 +197,11 @@ impl<P: Past, R: Ruling, L: LoginBook> EntryCore<P, R, L> {
     }
 
     /// A core with kept rows, whose hashes may be known.
-    pub fn open(alloc: Global, settings: Settings, rows: Rows) -> Result<EntryCore<P, R, L>, OpenFault>
+    pub fn open(
+        alloc: Global,
+        settings: Settings,
+        rows: Rows,
+    ) -> Result<EntryCore<P, R, L>, OpenFault>
         requires servers { settings.primaries + settings.backups ≤ 64 }
         requires few { length rows < 2 ^ 32 }
         ensures opened { IfOk result (λ core. core ≡ kept.opened settings rows) }

@@ -227,7 +227,15 @@ fn reply_under_number<P: Past, L: LoginBook>(
         Event::Abandon(n) if is_open(past, *n) => Reply::Closed,
         Event::LoginOnline(n, _) if past.is_open_attempt(*n) => Reply::Closed,
         Event::LoginTry(n, named, right) if past.is_open_attempt(*n) => {
-            reply_to_try(settings, past, logins, t, *named, *right, user_of(past.list(), *n))
+            reply_to_try(
+                settings,
+                past,
+                logins,
+                t,
+                *named,
+                *right,
+                user_of(past.list(), *n),
+            )
         }
         _ => Reply::NoRequest,
     }

@@ -1,8 +1,8 @@
-use Rattle.std.proofs.Common.{rules, ◌≡◌, ◌<◌, ◌∷◌, List, ℕ, length, reverse, take, get_or, sym, subst, ◌∙◌}
+use Rattle.std.proofs.Common.{rules, ◌≡◌, ◌<◌, List, ℕ, length, reverse, take, get_or, sym, subst, ◌∙◌}
 use Rattle.std.specs.Option.{option_copied}
 use Rattle.sd_rules.specs.declared.replies.Entry.{Entry}
 use Rattle.sd_core.specs.declared.notes.Note.{Note}
-use Rattle.sd_core.specs.Noted.{HasCount, Keeps, SayOfUsers, note_of}
+use Rattle.sd_core.specs.Noted.{HasCount, Keeps, SayOfUsers}
 use Rattle.sd_core.proofs.NotedLaws.{counts_at, has_count, more_at, say_after}
 use Rattle.sd_core.proofs.books.marks_of.Goals as goal
 

@@ -1,5 +1,4 @@
 use Rattle.std.proofs.Common.{◌≡◌, ◌+◌, ◌∷◌, ◌≤◌, true, sym, subst}
-use Rattle.sd_rules.specs.declared.replies.Entry.{Entry}
 use Rattle.sd_rules.specs.Requests.{reserved_places}
 use Rattle.sd_rules.specs.Steps.{Daemon, recorded}
 use Rattle.sd_index.specs.Entries.{numbers_fall}

@@ -16,6 +16,8 @@ invariant_of-self-2 g c = (
       (g.P.Past.entries c.self.inside.past) (g.P.Past.entries c.forget.new.past) c.self.invariant.0 c.in_ok-dropped.ensures.kept
       (c.of_entries-self-inside.ensures ∙ ap (λ (es : List Entry). min (text_bytes es) (2 ^ 64 - 1)) c.list.ensures)
       (c.has_stopped-self-inside.ensures ∙ ap has_stopped c.list-2.ensures),
-  (says_forgotten g.R.Ruling.Says c.self.inside.next (g.P.Past.entries c.self.inside.past) (g.P.Past.entries c.forget.new.past) c.self.inside.ruling c.self.invariant.0.kept.orderly c.in_ok-dropped.ensures.kept c.self.invariant.1.0,
-      c.in_ok-dropped.ensures.says),
+  (
+    says_forgotten g.R.Ruling.Says c.self.inside.next (g.P.Past.entries c.self.inside.past) (g.P.Past.entries c.forget.new.past) c.self.inside.ruling c.self.invariant.0.kept.orderly c.in_ok-dropped.ensures.kept c.self.invariant.1.0,
+    c.in_ok-dropped.ensures.says,
+  ),
 )

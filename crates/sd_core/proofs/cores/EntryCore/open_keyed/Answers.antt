@@ -42,9 +42,11 @@ invariant_of-result g c =
           (sound_at_first c.args.settings c.args.rows c.requires.servers c.requires.few
           (next_at_first c.args.settings c.args.rows c.in_ok-next.field-0.next c.in_ok-next.field-0.floor (reverse c.in_ok-next.field-0.entries.items) is (omega arith)) good)
           (kept_at_first c.args.settings c.args.rows good),
-      (subst (λ (o : Option Standing). g.R.Ruling.Says c.in_ok-ruling.ruling o) c.newest.ensures c.in_ok-ruling.ensures,
-          subst (λ (es : List Entry). g.L.LoginBook.Says c.in_ok-logins.logins es) (sym c.in_ok-past.ensures)
-          (subst (λ (es : List Entry). g.L.LoginBook.Says c.in_ok-logins.logins (reverse es)) c.as_slice-3.ensures.value c.in_ok-logins.ensures)),
+      (
+        subst (λ (o : Option Standing). g.R.Ruling.Says c.in_ok-ruling.ruling o) c.newest.ensures c.in_ok-ruling.ensures,
+        subst (λ (es : List Entry). g.L.LoginBook.Says c.in_ok-logins.logins es) (sym c.in_ok-past.ensures)
+            (subst (λ (es : List Entry). g.L.LoginBook.Says c.in_ok-logins.logins (reverse es)) c.as_slice-3.ensures.value c.in_ok-logins.ensures),
+      ),
     )
 
 pub read-requires : goal.read-requires
