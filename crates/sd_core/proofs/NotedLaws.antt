@@ -1,6 +1,6 @@
--- Marks say of each user what the entries say, after each entry and after a forget, and so judge a login as the entries do.
-use Rattle.std.proofs.Common.{◌≡◌, ◌≢◌, ℕ, suc, zero, ◌+◌, ◌==◌, ◌<◌, ◌^◌, Bool, true, false, cond, List, [], ◌∷◌, ◌++◌, length, reverse, take, drop, get_or, arith, refl, sym, ap, subst, ◌∙◌, add_comm}
-use Rattle.std.specs.Prelude.{Option, Some, None, ◌&&◌, not, if◌then◌else◌, unwrap_or, is_some, Result, Ok, Err, OnOk, OnErr, IsOk}
+-- Marks say of each user what the entries say, after each entry and after a forget.
+use Rattle.std.proofs.Common.{◌≡◌, ◌≢◌, ℕ, ◌+◌, ◌==◌, ◌<◌, ◌^◌, Bool, true, false, cond, List, [], ◌∷◌, ◌++◌, length, reverse, take, drop, get_or, arith, refl, sym, ap, subst, ◌∙◌, add_comm}
+use Rattle.std.specs.Prelude.{Option, Some, None, ◌&&◌, if◌then◌else◌, Result, Ok, Err, OnOk, OnErr}
 use Rattle.std.specs.Option.{option_map}
 use Rattle.std.proofs.lemmas.Bool.Decides.{nat_tests}
 use Rattle.std.proofs.lemmas.List.{reverse-append, take_more, take-append-drop}
@@ -13,30 +13,23 @@ use Rattle.sd_rules.specs.declared.events.Row.TheVariants as rows
 use Rattle.sd_rules.specs.declared.replies.Entry.{Entry}
 use Rattle.sd_rules.specs.declared.replies.Reply.{Reply}
 use Rattle.sd_rules.specs.declared.replies.Reply.TheVariants as replies
-use Rattle.sd_rules.specs.declared.replies.Verdict.{Verdict}
 use Rattle.sd_rules.specs.declared.replies.Verdict.TheVariants as verdicts
-use Rattle.sd_rules.specs.declared.settings.Settings.{Settings}
 use Rattle.sd_rules.specs.Keys.{same_name}
 use Rattle.sd_rules.specs.Logins as logins
 use Rattle.sd_rules.specs.Needed.{needed}
 use Rattle.sd_rules.specs.Past.{is_closed}
 use Rattle.sd_rules.specs.Requests.{is_try_accepted}
-use Rattle.sd_rules.specs.Steps.{reply_to_look}
 use Rattle.sd_keeping.specs.Counts.{HasCounts}
 use Rattle.sd_forgetting.specs.Kept.{SameLogins}
 use Rattle.sd_forgetting.specs.Orderly.{IsOrderly}
 use Rattle.sd_forgetting.proofs.Answers.{name_is, name_same}
 use Rattle.sd_forgetting.proofs.Forgets.{needed_kept}
-use Rattle.sd_past.specs.Closing.{closes_place}
-use Rattle.sd_creds.specs.declared.limits.Login.{Login}
 use Rattle.sd_creds.specs.declared.marks.Mark.{Mark}
-use Rattle.sd_creds.specs.Marks as marked
-use Rattle.sd_creds.specs.Marks.{IsMarkOf, Sets, is_marked, mark_at, mark_of, unmarked, with_wrong}
+use Rattle.sd_creds.specs.Marks.{Sets, mark_of, with_wrong}
 use Rattle.sd_creds.specs.Seen as seen
-use Rattle.sd_creds.proofs.Journal.{cached_login_of_journal, verdict_of_journal, verdict_of_try_of_journal, usable_hash_of_journal}
 use Rattle.sd_core.specs.declared.notes.LoginWord.{LoginWord}
 use Rattle.sd_core.specs.declared.notes.LoginWord.TheVariants as words
-use Rattle.sd_core.specs.Noted.{user_of_row, user_concerned, word_of_login, word_of_guess, word_of_row, word_of, user_by_word, user_told, note_of, login_told, accept_told, wrongs_told, with_word, mark_with, SaysOf, SayOfUsers, HasCount, Keeps, HadCounts, reply_by_hash}
+use Rattle.sd_core.specs.Noted.{user_of_row, user_concerned, word_of_login, word_of_guess, word_of_row, word_of, user_by_word, user_told, note_of, login_told, accept_told, wrongs_told, with_word, mark_with, SaysOf, SayOfUsers, HasCount, Keeps, HadCounts}
 use Rattle.sd_core.proofs.Room.{false_is_not_true}
 
 -- what an entry tells of a user's logins
@@ -337,14 +330,6 @@ say_after old new past e (Some u) say is keeps = record {
   each = λ other. said_after old new past e u other (same_name u other) refl say (concerned past e u (sym is)) keeps;
 }
 
--- nobody's marks say of nobody
-pub say_first : (marks : List (List ℕ × Mark)) → ((user : List ℕ) → mark_of marks user ≡ unmarked) → SayOfUsers marks []
-say_first marks none = record {
-  each = λ user.
-      subst (λ (m : Mark). SaysOf [] user m) (sym (none user))
-      (record { hash = refl; login = refl; wrong_count = refl; last_wrong = λ h. absurd (h refl) });
-}
-
 -- entries that show the same logins
 pub say_kept : (past kept : List Entry) (marks : List (List ℕ × Mark)) → SameLogins past kept → SayOfUsers marks past → SayOfUsers marks kept
 say_kept past kept marks same say = record {
@@ -397,14 +382,6 @@ say_then old new u moment none sets past say = record {
   each = λ other. said_then old new past u other moment (same_name u other) refl none sets say;
 }
 
--- who has wrong guesses has a mark
-marked_by : (o : Option Mark) → (unwrap_or o unmarked).wrong_count ≢ 0 → is_some o ≡ true
-marked_by None h = absurd (h refl)
-marked_by (Some m) h = refl
-
-pub counted_marked : (marks : List (List ℕ × Mark)) (user : List ℕ) → (mark_of marks user).wrong_count ≢ 0 → is_marked marks user ≡ true
-counted_marked marks user h = marked_by (mark_at marks user) h
-
 -- the wrong guesses of the user whom an entry concerns fit, where those of all fit before and after it
 fits_by : (w : LoginWord) (before after : ℕ) → after ≡ cond (accept_told w) 0 (wrongs_told w + before) → before < 2 ^ 64 → after < 2 ^ 64 → before + wrongs_told w < 2 ^ 64
 fits_by (words.WrongGuesses count) before after is b a = omega (arith, is, a)
@@ -421,64 +398,6 @@ has_count marks past e (Some u) say is before after =
     let counted = count_by past e u (mark_of marks u) own (word_of e.event e.reply) (tells past u e.event e.reply (concerned past e u (sym is))) in
     let fits : (mark_of marks u).wrong_count < 2 ^ 64 = subst (λ (n : ℕ). n < 2 ^ 64) own.wrong_count (before.fits u) in
     fits_by (word_of e.event e.reply) (mark_of marks u).wrong_count (logins.wrong_count (e ∷ past) u) counted fits (after.fits u)
-
--- what closes an open number or lets a ticket go tells of nobody
-closing_says_nothing : (past : List Entry) (event : Event) (reply : Reply) → closes_place past event ≡ true → word_of event reply ≡ words.Nothing
-closing_says_nothing past (events.Abandon n) reply h = refl
-closing_says_nothing past (events.Leave t) reply h = refl
-closing_says_nothing past _ reply h = cc
-
-pub closing_tells_of_none : (past : List Entry) (e : Entry) → closes_place past e.event ≡ true → user_told past e ≡ None
-closing_tells_of_none past e h = ap (λ (w : LoginWord). user_by_word w (user_concerned past e.event)) (closing_says_nothing past e.event e.reply h)
-
--- what was never refused is done
-pub done_if_held : {A B : Type 0} {P : Type 0} (r : Result A B) → IsOk r → OnOk r P → P
-done_if_held (Ok x) h p = p
-done_if_held (Err x) h p = absurd (false_is_not_true h)
-
--- a login by what marks say
-module _ (s : Settings) (t : ℕ) (past : List Entry) (user : List ℕ) (m : Mark) (own : SaysOf past user m) where
-  -- the mark with the last wrong guess of the entries
-  abbrev whole : Mark
-  whole = record m { last_wrong = logins.last_wrong past user }
-
-  is_whole : IsMarkOf past user whole
-  is_whole = record { hash = own.hash; login = own.login; wrong_count = own.wrong_count; last_wrong = refl }
-
-  pub cached_by : marked.cached_login s t m ≡ logins.cached_login s past t user
-  cached_by = cached_login_of_journal s t past user whole is_whole
-
-  pub tried_by : (named : ℕ) (right : Bool) → marked.verdict_of_try s t m named right ≡ logins.verdict_of_try s past t user named right
-  tried_by named right = verdict_of_try_of_journal s t past user whole is_whole named right
-
-  last_by_count : (w : ℕ) → logins.wrong_count past user ≡ w → w ≢ 0 → m.last_wrong ≡ logins.last_wrong past user
-  last_by_count w is some = sym (own.last_wrong (λ z. some (sym is ∙ z)))
-
-  -- the last wrong guess is asked for only where there are wrong guesses
-  same_block : (w : ℕ) → logins.wrong_count past user ≡ w → logins.block_of s t w m.last_wrong ≡ logins.block_of s t w (logins.last_wrong past user)
-  same_block zero is = never (not (s.attempts == 0)) (logins.block_until s t m.last_wrong) (logins.block_until s t (logins.last_wrong past user))
-    where
-      never : {X : Type 0} (a : Bool) (x y : Option X) → (if a && false then x else None) ≡ (if a && false then y else None)
-      never true x y = refl
-      never false x y = refl
-  same_block (suc w) is = ap (λ (last : Option ℕ). logins.block_of s t (suc w) last) (last_by_count (suc w) is (λ z. cc))
-
-  by_last : (o : Option logins.Login) (named : ℕ) (right : Bool) → logins.verdict_by_hash s t m.wrong_count m.last_wrong o named right ≡ logins.verdict_by_hash s t m.wrong_count (logins.last_wrong past user) o named right
-  by_last None named right = refl
-  by_last (Some l) named right =
-      ap (λ (block : Option Verdict). cond (logins.is_expired s t l) (verdicts.Expired (logins.expiry_of s l)) (logins.verdict_unless_blocked block l named right)) (same_block m.wrong_count own.wrong_count)
-
-  pub verdict_by : (named : ℕ) (right : Bool) → marked.verdict_of s t m named right ≡ logins.verdict_of s past t user named right
-  verdict_by named right = by_last (marked.usable_hash s m) named right ∙ verdict_of_journal s t past user whole is_whole named right
-
-  look_by_hash : (b : Bool) (o : Option Login) → reply_by_hash b (option_map (λ l. l.number) o) ≡ reply_to_look (cond b (option_map seen.login o) None)
-  look_by_hash true None = refl
-  look_by_hash true (Some l) = refl
-  look_by_hash false None = refl
-  look_by_hash false (Some l) = refl
-
-  pub look_by : reply_by_hash s.cache_credentials (option_map (λ l. l.number) m.hash) ≡ reply_to_look (logins.usable_hash s past user)
-  look_by = look_by_hash s.cache_credentials m.hash ∙ ap reply_to_look (usable_hash_of_journal s t past user whole is_whole)
 
 -- counts of a part of the entries, the older ones
 had_counts_before : (newer older : List Entry) → HadCounts (newer ++ older) → HadCounts older
