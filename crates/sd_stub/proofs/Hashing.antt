@@ -17,10 +17,10 @@ use Rattle.sd_ldap.specs.declared.entry.Attribute.{Attribute}
 use Rattle.sd_ldap.specs.declared.entry.DirEntry.{DirEntry}
 use Rattle.sd_match.specs.Matching.{holds_dns, holds_numbers, are_digits, equal_dns, equal_numbers, equals, has_value}
 use Rattle.sd_match.specs.Answering.{is_child, in_scope}
-use Rattle.sd_stub.specs.declared.naming.Part.{Part}
-use Rattle.sd_stub.specs.Naming.{lower, lower_pair, lower_dn}
+use Rattle.sd_names.specs.declared.naming.Part.{Part}
+use Rattle.sd_names.specs.Naming.{lower, lower_pair, lower_dn}
+use Rattle.sd_names.proofs.Names.{texts_same, dns_same, levels_decide, texts_equal}
 use Rattle.sd_stub.specs.Numbers.{one_more, mixed, bytes_number, levels_number, base_numbers, base_number, dn_value_number, text_value_number, value_number, values_numbers, attributes_numbers, place_numbers, entry_numbers}
-use Rattle.sd_stub.proofs.Names.{texts_same, dns_same, levels_decide, texts_equal}
 
 both_so : (s t : Bool) → (s && t) ≡ true → (s ≡ true) × (t ≡ true)
 both_so true t h = (refl, h)
@@ -29,13 +29,13 @@ both_so false t h = cc
 -- ---- without case
 
 lowered : (a b : List ℕ) → same_text a b ≡ true → lower a ≡ lower b
-lowered a b h = sym ((bytes_decides (lower b) (lower a)).0 (texts_same b a ∙ h))
+lowered a b h = (bytes_decides (lower a) (lower b)).0 (texts_same a b ∙ h)
 
 dn_lowered : (a b : List (List Pair)) → same_dn a b ≡ true → lower_dn a ≡ lower_dn b
-dn_lowered a b h = sym (levels_decide (lower_dn b) (lower_dn a) (dns_same b a ∙ h))
+dn_lowered a b h = levels_decide (lower_dn a) (lower_dn b) (dns_same a b ∙ h)
 
 alike : (a b c : List ℕ) → lower a ≡ lower b → same_text a c ≡ same_text b c
-alike a b c e = sym (texts_same c a) ∙ ap (λ (t : List ℕ). texts_equal (lower c) t) e ∙ texts_same c b
+alike a b c e = sym (texts_same a c) ∙ ap (λ (t : List ℕ). texts_equal t (lower c)) e ∙ texts_same b c
 
 holds_dns_alike : (a b : List ℕ) → lower a ≡ lower b → holds_dns a ≡ holds_dns b
 holds_dns_alike a b e =

@@ -12,13 +12,15 @@ use Rattle.sd_ldap.specs.declared.entry.DirEntry.{DirEntry}
 use Rattle.sd_ldap.specs.Values.{SearchValue}
 use Rattle.sd_match.specs.Matching.{matches}
 use Rattle.sd_match.specs.Answering.{in_scope, is_found, has_password}
-use Rattle.sd_stub.specs.declared.naming.Part.{Part}
-use Rattle.sd_stub.specs.declared.naming.Name.{Name}
+use Rattle.sd_names.specs.declared.naming.Part.{Part}
+use Rattle.sd_names.specs.declared.naming.Name.{Name}
+use Rattle.sd_names.specs.Naming.{lower_dn, parts, lowered, names_equal}
+use Rattle.sd_names.proofs.Names.{equal_of, parts_same, met_lowered, lowered_met, never_met}
 use Rattle.sd_stub.specs.Covers.{present, at_slot, with_some, passes_at, AreEnough, HasGrown}
 use Rattle.sd_stub.specs.Keeping.{put}
-use Rattle.sd_stub.specs.Naming.{lower_dn, parts, lowered, names_equal, place_named, if_there, AreNamed, IsReserved, IsAlone, IsNowhere, IsPlaceOf}
+use Rattle.sd_stub.specs.Naming.{place_named, if_there, AreNamed, IsReserved, IsAlone, IsNowhere, IsPlaceOf}
 use Rattle.sd_stub.proofs.Covering.{fails, both_kept}
-use Rattle.sd_stub.proofs.Names.{equal_of, parts_same, met_lowered, lowered_met, never_met, place_same, place_put}
+use Rattle.sd_stub.proofs.Names.{place_same, place_put}
 
 -- ---- what a slot holds
 

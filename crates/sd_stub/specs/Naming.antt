@@ -1,45 +1,13 @@
--- By what an entry is found among others.
-use Rattle.std.specs.Prelude.{◌≡◌, ◌≢◌, ℕ, ◌<◌, suc, Bool, true, false, cond, is_some, List, length, map, Option, Some, None}
+-- Where the entry of a name stands.
+use Rattle.std.specs.Prelude.{◌≡◌, ◌≢◌, ℕ, ◌<◌, suc, true, false, cond, is_some, List, length, Option, Some, None}
 use Rattle.std.specs.Map.{lookup}
-use Rattle.std.specs.Char.{to_ascii_lowercase}
 use Rattle.sd_dn.specs.declared.Pair.{Pair}
 use Rattle.sd_dn.specs.Comparing.{same_dn}
 use Rattle.sd_dn.specs.Texts.{spelled, both_meet}
 use Rattle.sd_ldap.specs.declared.entry.DirEntry.{DirEntry}
+use Rattle.sd_names.specs.declared.naming.Name.{Name}
+use Rattle.sd_names.specs.Naming.{parts, lowered, names_equal}
 use Rattle.sd_stub.specs.Covers.{at_slot}
-use Rattle.sd_stub.specs.declared.naming.Part.{Part}
-use Rattle.sd_stub.specs.declared.naming.Level.{Level}
-use Rattle.sd_stub.specs.declared.naming.Name.{Name}
-use Rattle.sd_stub.specs.contracts.naming.NamePartialEq.TheImpl as name_equality
-
-abbrev pub lower : List ℕ → List ℕ
-lower text = map to_ascii_lowercase text
-
-abbrev pub lower_pair : Pair → Part
-lower_pair p = record { name = lower p.name; value = lower p.value }
-
--- types and values in lower case, in the same order
-abbrev pub lower_dn : List (List Pair) → List (List Part)
-lower_dn dn = map (λ (rdn : List Pair). map lower_pair rdn) dn
-
-abbrev pub parts_of : List Level → List (List Part)
-parts_of levels = map (λ (level : Level). level.parts.items) levels
-
-abbrev pub parts : Name → List (List Part)
-parts name = parts_of name.levels.items
-
-abbrev pub lowered : Option (List (List Pair)) → Option (List (List Part))
-lowered (Some dn) = Some (lower_dn dn)
-lowered None = None
-
--- a name is that of a DN; what is no DN has none
-abbrev pub IsNameOf : Option Name → Option (List (List Pair)) → Type 0
-IsNameOf (Some name) dn = lowered dn ≡ Some (parts name)
-IsNameOf None dn = lowered dn ≡ None
-
--- what `==` says of two names, by which they are found
-abbrev pub names_equal : Name → Name → Bool
-names_equal = (name_equality.ghosts).eq
 
 -- the place that is kept for a name
 abbrev pub place_named : List (Name × ℕ) → Name → Option ℕ

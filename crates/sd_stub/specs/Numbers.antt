@@ -5,8 +5,8 @@ use Rattle.sd_dn.specs.Texts.{spelled}
 use Rattle.sd_ldap.specs.declared.entry.Attribute.{Attribute}
 use Rattle.sd_ldap.specs.declared.entry.DirEntry.{DirEntry}
 use Rattle.sd_match.specs.Matching.{holds_dns, holds_numbers}
-use Rattle.sd_stub.specs.declared.naming.Part.{Part}
-use Rattle.sd_stub.specs.Naming.{lower, lower_dn}
+use Rattle.sd_names.specs.declared.naming.Part.{Part}
+use Rattle.sd_names.specs.Naming.{lower, lower_dn}
 
 -- a number and a byte behind it; decimal digits come to the number that they spell
 unfoldable pub one_more : Bool → ℕ → ℕ → ℕ

@@ -3,16 +3,17 @@ ghost use Rattle.std.specs.Prelude.{◌≡◌, ℕ, OnErr, ◌∷◌, [], ◌++�
 ghost use Rattle.sd_dn.specs.Comparing.{same_dn};
 ghost use Rattle.sd_dn.specs.Texts.{spelled, both_meet};
 ghost use Rattle.sd_ldap.specs.declared.entry.DirEntry.{DirEntry};
+ghost use Rattle.sd_names.specs.Naming.{lowered, parts};
 ghost use Rattle.sd_stub.specs.Covers.{present, at_slot, HasGrown};
 ghost use Rattle.sd_stub.specs.Keeping.{put, kept};
-ghost use Rattle.sd_stub.specs.Naming.{lowered, parts, place_named, if_there, AreNamed, IsReserved, IsAlone, IsPlaceOf};
+ghost use Rattle.sd_stub.specs.Naming.{place_named, if_there, AreNamed, IsReserved, IsAlone, IsPlaceOf};
 
-use crate::naming::{Name, name_of};
 use crate::placed::{Placed, Slots};
 use indexmap::IndexMap;
 use sd_base::Memory;
 use sd_dn::Dn;
 use sd_ldap::DirEntry;
+use sd_names::{Name, name_of};
 use std::alloc::Global;
 
 /// The places that are kept for names.

@@ -8,7 +8,6 @@ mod ending;
 mod fault;
 mod index;
 mod keeping;
-mod naming;
 mod narrowing;
 mod numbers;
 mod placed;

@@ -2,7 +2,7 @@
 ghost use Rattle.std.specs.Prelude.{◌≡◌, ◌<◌, ◌^◌, ◌*◌, ◌++◌, Bool, false, if◌then◌else◌, List, map, IfOk, OnOk};
 ghost use Rattle.sd_dn.specs.Texts.{spelled};
 ghost use Rattle.sd_match.specs.Matching.{holds_dns, holds_numbers};
-ghost use Rattle.sd_stub.specs.Naming.{lower, lower_pair, lower_dn};
+ghost use Rattle.sd_names.specs.Naming.{lower, lower_pair, lower_dn};
 ghost use Rattle.sd_stub.specs.Numbers as numbers;
 
 use sd_base::{Memory, Text};

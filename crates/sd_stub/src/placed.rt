@@ -3,14 +3,14 @@ ghost use Rattle.std.specs.Prelude.{◌≡◌, ℕ, IfOk, Option};
 ghost use Rattle.sd_dn.specs.Comparing.{same_dn, ends_with};
 ghost use Rattle.sd_dn.specs.Texts.{spelled, both_meet};
 ghost use Rattle.sd_match.specs.Answering.{is_child, in_scope};
-ghost use Rattle.sd_stub.specs.Naming.{IsNameOf};
+ghost use Rattle.sd_names.specs.Naming.{IsNameOf};
 ghost use Rattle.sd_stub.specs.Numbers as numbers;
 
-use crate::naming::{Name, name_of};
 use crate::numbers::entry_numbers;
 use sd_base::{Items, Memory};
 use sd_dn::{Dn, dn_equal, is_at_or_under, spelled};
 use sd_ldap::DirEntry;
+use sd_names::{Name, name_of};
 use std::alloc::Global;
 use std::marker::Model;
 

@@ -1,5 +1,5 @@
 use Rattle.std.proofs.Common.{◌≡◌, drop}
-use Rattle.sd_stub.specs.Naming.{lower_dn}
+use Rattle.sd_names.specs.Naming.{lower_dn}
 use Rattle.sd_stub.specs.Numbers.{levels_number}
 use Rattle.sd_stub.proofs.numbers.dn_number.Given as goal
 

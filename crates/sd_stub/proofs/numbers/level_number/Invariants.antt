@@ -1,5 +1,5 @@
 use Rattle.std.proofs.Common.{◌≡◌, take, map}
-use Rattle.sd_stub.specs.Naming.{lower_pair}
+use Rattle.sd_names.specs.Naming.{lower_pair}
 use Rattle.sd_stub.specs.Numbers.{level_number}
 use Rattle.sd_stub.proofs.numbers.level_number.Given as goal
 

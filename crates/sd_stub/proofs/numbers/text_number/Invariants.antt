@@ -1,5 +1,5 @@
 use Rattle.std.proofs.Common.{◌≡◌, take}
-use Rattle.sd_stub.specs.Naming.{lower}
+use Rattle.sd_names.specs.Naming.{lower}
 use Rattle.sd_stub.specs.Numbers.{bytes_number}
 use Rattle.sd_stub.proofs.numbers.text_number.Given as goal
 

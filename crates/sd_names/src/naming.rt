@@ -1,7 +1,7 @@
-//! By what an entry is found among others.
+//! The name of a DN.
 ghost use Rattle.std.specs.Prelude.{◌≡◌, List, map, IfOk};
 ghost use Rattle.sd_dn.specs.declared.Pair.{Pair};
-ghost use Rattle.sd_stub.specs.Naming.{lower, lower_pair, lower_dn, parts};
+ghost use Rattle.sd_names.specs.Naming.{lower, lower_pair, lower_dn, parts};
 
 use sd_base::{Memory, Text};
 use sd_dn::{Dn, Pair};
