@@ -1,5 +1,5 @@
 -- Names in order depend on which names there are, and not on their order or number.
-use Rattle.std.proofs.Common.{◌≡◌, ℕ, zero, suc, ◌<◌, ◌≤◌, Bool, true, false, ◌&&◌, ◌||◌, ◌==◌, List, [], ◌∷◌, ◌++◌, map, min, Option, Some, None, refl, sym, ap, ◌∙◌, subst, cond, inl, inr, ◌⊎◌, arith}
+use Rattle.std.proofs.Common.{◌≡◌, ℕ, ◌<◌, Bool, true, false, ◌&&◌, ◌||◌, ◌==◌, List, [], ◌∷◌, ◌++◌, map, min, Option, Some, None, refl, sym, ap, ◌∙◌, subst, cond, inl, inr, ◌⊎◌, arith}
 use Rattle.std.proofs.lemmas.Bool.{eqb-true, eq-eqb, ltb-true, lt-ltb, and_parts, cases_lt}
 use Rattle.std.proofs.lemmas.List.{map-append}
 use Rattle.std.specs.Prelude.{nat_lt, codes}
@@ -11,7 +11,7 @@ use Rattle.sd_entry.specs.Values.{first_of}
 use Rattle.sd_entry.specs.Users.{is_user}
 use Rattle.sd_nested.specs.Named.{listed, called, user_name, user_names}
 use Rattle.sd_nested.specs.Directions.{user_ref}
-use Rattle.sd_nested.specs.Order.{is_before, with_name, in_order, lesser, least_gid, names_of, ref_among, refs_in_order}
+use Rattle.sd_nested.specs.Order.{is_before, AllAfter, Ascends, with_name, in_order, lesser, least_gid, names_of, ref_among, refs_in_order}
 use Rattle.sd_nested.proofs.In.{In}
 
 -- ---- the byte order
@@ -26,7 +26,7 @@ same_is (x ∷ xs) (y ∷ ys) h =
     let f : xs ≡ ys = same_is xs ys p.1 in
     cc
 
-not_before_self : (a : List ℕ) → is_before a a ≡ false
+pub not_before_self : (a : List ℕ) → is_before a a ≡ false
 not_before_self [] = refl
 not_before_self (x ∷ xs) = self_by (nat_lt x x) (x == x) (is_before xs xs) (ltb_self x) (not_before_self xs)
   where
@@ -90,21 +90,13 @@ turned_by x y same fore back (inr (inl e)) h g f = by_tail y x back (sym e) (f (
     other false true r e h = h
     other false false r e h = cc
 
-turned : (a b : List ℕ) → same_name a b ≡ false → is_before a b ≡ false → is_before b a ≡ true
+pub turned : (a b : List ℕ) → same_name a b ≡ false → is_before a b ≡ false → is_before b a ≡ true
 turned [] [] h g = cc
 turned [] (y ∷ ys) h g = cc
 turned (x ∷ xs) [] h g = refl
 turned (x ∷ xs) (y ∷ ys) h g = turned_by x y (same_name xs ys) (is_before xs ys) (is_before ys xs) (heads x y) h g (turned xs ys)
 
 -- ---- ascending lists
-
-abbrev pub AllAfter : List ℕ → List (List ℕ) → Type 0
-AllAfter x [] = Unit {0}
-AllAfter x (y ∷ ys) = (is_before x y ≡ true) × AllAfter x ys
-
-abbrev pub Ascends : List (List ℕ) → Type 0
-Ascends [] = Unit {0}
-Ascends (x ∷ xs) = AllAfter x xs × Ascends xs
 
 after_in : (x n : List ℕ) (ys : List (List ℕ)) → AllAfter x ys → In n ys → is_before x n ≡ true
 after_in x n [] a h = absurd h
@@ -141,7 +133,7 @@ unfolding put_by
 ascends_with name [] a = (tt, tt)
 ascends_with name (y ∷ ys) a = ascends_put (same_name name y) (is_before name y) name y ys refl refl a.0 a.1 (ascends_with name ys a.1)
 
-ascends : (xs : List (List ℕ)) → Ascends (in_order xs)
+pub ascends : (xs : List (List ℕ)) → Ascends (in_order xs)
 ascends [] = tt
 ascends (x ∷ xs) = ascends_with x (in_order xs) (ascends xs)
 
@@ -188,7 +180,7 @@ from_with name n [] (inl e) = inl e
 from_with name n [] (inr h) = absurd h
 from_with name n (y ∷ ys) h = from_put (same_name name y) (is_before name y) name y n ys h (from_with name n ys)
 
-in_order_in : (n : List ℕ) (xs : List (List ℕ)) → In n xs → In n (in_order xs)
+pub in_order_in : (n : List ℕ) (xs : List (List ℕ)) → In n xs → In n (in_order xs)
 in_order_in n [] h = absurd h
 in_order_in n (x ∷ xs) (inl e) = subst (λ (m : List ℕ). In m (with_name x (in_order xs))) e (there x (in_order xs))
 in_order_in n (x ∷ xs) (inr h) = keeps x n (in_order xs) (in_order_in n xs h)
@@ -197,7 +189,7 @@ either_in : (n x : List ℕ) (xs : List (List ℕ)) → (x ≡ n) ⊎ In n (in_o
 either_in n x xs (inl e) k = inl e
 either_in n x xs (inr h) k = inr (k h)
 
-in_order_from : (n : List ℕ) (xs : List (List ℕ)) → In n (in_order xs) → In n xs
+pub in_order_from : (n : List ℕ) (xs : List (List ℕ)) → In n (in_order xs) → In n xs
 in_order_from n [] h = absurd h
 in_order_from n (x ∷ xs) h = either_in n x xs (from_with x n (in_order xs) h) (in_order_from n xs)
 
@@ -217,7 +209,7 @@ other_than x y n xs ys same a h (inl e) =
     absurd (let f : is_before x x ≡ true = subst (λ (m : List ℕ). is_before x m ≡ true) (sym e ∙ sym same) b in let g = not_before_self x in cc)
 other_than x y n xs ys same a h (inr g) = g
 
-one_list : (xs ys : List (List ℕ)) → Ascends xs → Ascends ys → ((n : List ℕ) → In n xs → In n ys) → ((n : List ℕ) → In n ys → In n xs) → xs ≡ ys
+pub one_list : (xs ys : List (List ℕ)) → Ascends xs → Ascends ys → ((n : List ℕ) → In n xs → In n ys) → ((n : List ℕ) → In n ys → In n xs) → xs ≡ ys
 one_list [] [] a b f g = refl
 one_list [] (y ∷ ys) a b f g = absurd (g y (inl refl))
 one_list (x ∷ xs) [] a b f g = absurd (f x (inl refl))
@@ -244,7 +236,7 @@ lesser_flip (Some a) (Some b) = ap Some (least_flip a b)
 least_assoc : (a b c : ℕ) → min (min a b) c ≡ min a (min b c)
 least_assoc a b c = omega arith
 
-lesser_assoc : (a b c : Option ℕ) → lesser (lesser a b) c ≡ lesser a (lesser b c)
+pub lesser_assoc : (a b c : Option ℕ) → lesser (lesser a b) c ≡ lesser a (lesser b c)
 lesser_assoc None b c = refl
 lesser_assoc (Some a) None c = refl
 lesser_assoc (Some a) (Some b) None = refl
@@ -292,7 +284,7 @@ all_below name [] ss f = refl
 all_below name (r ∷ rs) ss f =
     below_by (same_name r.name name) r.gid (least_gid name rs) (least_gid name ss) (λ s. at_least name r ss (f r (inl refl)) s) (all_below name rs ss (λ x h. f x (inr h)))
 
-same_least : (name : List ℕ) (rs ss : List GroupRef) → ((r : GroupRef) → In r rs → In r ss) → ((r : GroupRef) → In r ss → In r rs) → least_gid name rs ≡ least_gid name ss
+pub same_least : (name : List ℕ) (rs ss : List GroupRef) → ((r : GroupRef) → In r rs → In r ss) → ((r : GroupRef) → In r ss → In r rs) → least_gid name rs ≡ least_gid name ss
 same_least name rs ss f g = sym (all_below name ss rs g) ∙ (lesser_flip (least_gid name ss) (least_gid name rs) ∙ all_below name rs ss f)
 
 name_in : (r : GroupRef) (rs : List GroupRef) → In r rs → In r.name (names_of rs)

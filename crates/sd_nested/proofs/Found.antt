@@ -1,5 +1,5 @@
 -- The names and groups of the rounds are those of the paths.
-use Rattle.std.proofs.Common.{◌≡◌, ℕ, suc, true, List, [], ◌∷◌, ◌++◌, map, Option, Some, None, sym, ap, ◌∙◌, subst}
+use Rattle.std.proofs.Common.{◌≡◌, ℕ, suc, true, List, [], ◌∷◌, ◌++◌, map, Option, ap, ◌∙◌, subst}
 use Rattle.std.specs.List.{flat_map}
 use Rattle.sd_dn.specs.declared.Pair.{Pair}
 use Rattle.sd_dn.specs.Comparing.{ends_with}
@@ -7,7 +7,7 @@ use Rattle.sd_dn.specs.Reading.{is_dn}
 use Rattle.sd_ldap.specs.declared.entry.DirEntry.{DirEntry}
 use Rattle.sd_rules.specs.declared.records.GroupRef.{GroupRef}
 use Rattle.sd_nested.specs.Named.{user_names, group_ref, group_refs, group_values}
-use Rattle.sd_nested.specs.Order.{in_order, names_of, refs_in_order}
+use Rattle.sd_nested.specs.Order.{AreInOrder, in_order, names_of, AreRefsInOrder, refs_in_order}
 use Rattle.sd_nested.specs.Paths.{placed_in, at_or_under, reached, holding, members_of, groups_of_user}
 use Rattle.sd_nested.specs.Rounds.{Rounds, rounds, beginning, member_way, member_start, member_reads, first_values, new_among, dns_of, holder_way}
 use Rattle.sd_nested.specs.declared.searcher.Stop.{Stop}
@@ -18,20 +18,21 @@ use Rattle.sd_nested.specs.Directions.{user_ref, question_by, kept_by, way_by}
 use Rattle.sd_nested.proofs.Reached.{names_found, names_reached}
 use Rattle.sd_nested.proofs.Held.{refs_found, refs_held}
 use Rattle.sd_nested.proofs.Ascending.{same_order, same_refs_order, kept_names}
+use Rattle.sd_nested.proofs.Ordered.{is_inserted, are_inserted}
 
 pub members_found : (told : List DirEntry) (base : List (List Pair)) (level : ℕ) (group : DirEntry) (kept : List GroupRef) (names : List (List ℕ))
-    → kept ≡ flat_map user_ref (rounds (member_way told base) (member_start base group) (suc level)).found → names ≡ in_order (names_of kept) → names ≡ members_of told base level group
+    → kept ≡ flat_map user_ref (rounds (member_way told base) (member_start base group) (suc level)).found → AreInOrder (names_of kept) names → names ≡ members_of told base level group
 members_found told base level group kept names k n =
-    n
+    is_inserted (names_of kept) names n
     ∙ (ap (λ (rs : List GroupRef). in_order (names_of rs)) k
     ∙ (ap in_order (kept_names (rounds (member_way told base) (member_start base group) (suc level)).found)
     ∙ same_order (user_names (rounds (member_way told base) (member_start base group) (suc level)).found) (user_names (reached (placed_in base told) (suc level) group))
     (names_found told base (suc level) group) (names_reached told base level group)))
 
 pub groups_found : (told : List DirEntry) (base : List ℕ) (level : ℕ) (dn : List ℕ) (kept groups : List GroupRef) → is_dn dn ≡ true
-    → kept ≡ flat_map group_ref (rounds (holder_way told base) (beginning [] (dn ∷ [])) (suc level)).found → groups ≡ refs_in_order kept → groups ≡ groups_of_user (at_or_under base told) level dn
+    → kept ≡ flat_map group_ref (rounds (holder_way told base) (beginning [] (dn ∷ [])) (suc level)).found → AreRefsInOrder kept groups → groups ≡ groups_of_user (at_or_under base told) level dn
 groups_found told base level dn kept groups d k g =
-    g
+    are_inserted kept groups g
     ∙ (ap refs_in_order k
     ∙ same_refs_order (group_refs (rounds (holder_way told base) (beginning [] (dn ∷ [])) (suc level)).found) (group_refs (holding (at_or_under base told) (suc level) dn))
     (λ r h. refs_found told base (suc level) dn r d h) (λ r h. refs_held told base level dn r d h))

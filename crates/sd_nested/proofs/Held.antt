@@ -1,8 +1,8 @@
 -- Holder rounds find the groups from which member paths lead to a DN.
-use Rattle.std.proofs.Common.{◌≡◌, ℕ, zero, suc, ◌+◌, ◌≤◌, Bool, true, false, ◌&&◌, ◌||◌, List, [], ◌∷◌, ◌++◌, Option, Some, None, Result, Ok, Err, refl, sym, ap, ◌∙◌, subst, inl, inr, ◌⊎◌, cond, arith}
+use Rattle.std.proofs.Common.{◌≡◌, ℕ, zero, suc, Bool, true, false, ◌&&◌, ◌||◌, List, [], ◌∷◌, Option, Some, None, Result, Ok, Err, refl, sym, ap, ◌∙◌, subst, inl, inr, cond, arith}
 use Rattle.std.proofs.lemmas.Bool.{and_from, and_parts}
-use Rattle.std.specs.Prelude.{filter, codes}
-use Rattle.std.specs.List.{list_any, flat_map}
+use Rattle.std.specs.Prelude.{codes}
+use Rattle.std.specs.List.{list_any}
 use Rattle.std.specs.Result.{is_ok, result_ok}
 use Rattle.sd_dn.specs.declared.Pair.{Pair}
 use Rattle.sd_dn.specs.Comparing.{same_text, same_dn, ends_with}
@@ -11,13 +11,13 @@ use Rattle.sd_dn.specs.Texts.{both_meet, spelled, same_dn_text}
 use Rattle.sd_ldap.specs.declared.entry.Attribute.{Attribute}
 use Rattle.sd_ldap.specs.declared.entry.DirEntry.{DirEntry}
 use Rattle.sd_entry.specs.Values.{has_class}
-use Rattle.sd_match.specs.Matching.{has_value, equal_dns, equals}
+use Rattle.sd_match.specs.Matching.{has_value, equals}
 use Rattle.sd_match.specs.Answering.{is_found, found, is_at_or_under}
 use Rattle.sd_rules.specs.declared.records.GroupRef.{GroupRef}
 use Rattle.sd_nested.specs.Searches.{holder_search}
 use Rattle.sd_nested.specs.Named.{is_group, group_ref, group_refs}
 use Rattle.sd_nested.specs.Paths.{at_or_under, holds, holders_in, holding}
-use Rattle.sd_nested.specs.Rounds.{Way, Rounds, rounds, beginning, holder_way, dns_of}
+use Rattle.sd_nested.specs.Rounds.{rounds, beginning, holder_way}
 use Rattle.sd_nested.proofs.Same.{dn_texts_same, right_of, self_dn}
 use Rattle.sd_nested.proofs.Spelled.{spells_alike, met_dn}
 use Rattle.sd_nested.proofs.In.{In, in_flat, in_from, in_filter, filter_in}

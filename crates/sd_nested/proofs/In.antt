@@ -1,5 +1,5 @@
 -- Things in lists.
-use Rattle.std.proofs.Common.{◌≡◌, Bool, true, false, ◌||◌, List, [], ◌∷◌, ◌++◌, map, refl, sym, ap, ◌∙◌, subst, cond, inl, inr, ◌⊎◌}
+use Rattle.std.proofs.Common.{◌≡◌, Bool, true, false, ◌||◌, List, [], ◌∷◌, ◌++◌, refl, sym, ap, ◌∙◌, subst, cond, inl, inr, ◌⊎◌}
 use Rattle.std.specs.Prelude.{filter}
 use Rattle.std.specs.List.{list_any, flat_map}
 

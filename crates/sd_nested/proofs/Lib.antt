@@ -1,4 +1,3 @@
-pub mod Before
 pub mod Exchanges
 pub mod Same
 pub mod Sent
@@ -10,4 +9,5 @@ pub mod Reached
 pub mod Spelled
 pub mod Held
 pub mod Ascending
+pub mod Ordered
 pub mod Found

@@ -2,10 +2,10 @@
 use Rattle.std.proofs.Common.{◌≡◌, ℕ, Bool, true, false, not, ◌&&◌, ◌||◌, List, [], ◌∷◌, ◌++◌, Option, Some, None, refl, sym, ap, ◌∙◌, subst, cond, inl, inr, ◌⊎◌, append_assoc}
 use Rattle.std.proofs.lemmas.Bool.{and_parts}
 use Rattle.std.proofs.lemmas.List.Folds.{list_any-append}
-use Rattle.std.specs.List.{list_any, flat_map}
+use Rattle.std.specs.List.{list_any}
 use Rattle.sd_dn.specs.declared.Pair.{Pair}
 use Rattle.sd_dn.specs.Comparing.{same_dn}
-use Rattle.sd_dn.specs.Texts.{both_meet, spelled, same_dn_text}
+use Rattle.sd_dn.specs.Texts.{both_meet, spelled}
 use Rattle.sd_nested.specs.Rounds.{is_new, listed_dn, dns_of, new_among}
 use Rattle.sd_nested.proofs.In.{In, or_either}
 use Rattle.sd_nested.proofs.Same.{self_dn}

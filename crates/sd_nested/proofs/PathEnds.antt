@@ -1,14 +1,13 @@
 -- Rounds find what paths reach: a path goes from texts to the entries found for those that are admitted, and on
 -- to the texts that these lead on to.
-use Rattle.std.proofs.Common.{◌≡◌, ℕ, zero, suc, ◌+◌, ◌≤◌, Bool, true, List, [], ◌∷◌, ◌++◌, Option, Some, refl, sym, ap, ◌∙◌, subst, inl, inr, ◌⊎◌, arith, append_assoc}
+use Rattle.std.proofs.Common.{◌≡◌, ℕ, zero, suc, ◌+◌, ◌≤◌, true, List, [], ◌∷◌, ◌++◌, Option, refl, sym, ap, ◌∙◌, subst, inl, inr, ◌⊎◌, arith}
 use Rattle.std.proofs.lemmas.Grind.{flat_map-append}
 use Rattle.std.specs.Prelude.{filter}
 use Rattle.std.specs.List.{flat_map}
 use Rattle.sd_dn.specs.declared.Pair.{Pair}
-use Rattle.sd_dn.specs.Comparing.{same_dn}
-use Rattle.sd_dn.specs.Texts.{both_meet, spelled, same_dn_text}
+use Rattle.sd_dn.specs.Texts.{spelled, same_dn_text}
 use Rattle.sd_ldap.specs.declared.entry.DirEntry.{DirEntry}
-use Rattle.sd_nested.specs.Rounds.{Way, Rounds, going_on, new_among, next_round, rounds, beginning, dns_of}
+use Rattle.sd_nested.specs.Rounds.{Way, Rounds, next_round, rounds, dns_of}
 use Rattle.sd_nested.proofs.In.{In, in_left, in_right, in_either, in_flat, in_from, in_filter, filter_in}
 use Rattle.sd_nested.proofs.Marks.{admitted, met_by, met_left, met_either, all_met, taken, IsSpelledAmong, spelled_among}
 use Rattle.sd_nested.proofs.Turns.{at_most}

@@ -1,8 +1,8 @@
 -- Member rounds find the users that member paths reach.
-use Rattle.std.proofs.Common.{◌≡◌, ℕ, zero, suc, ◌+◌, ◌≤◌, Bool, true, false, ◌&&◌, ◌||◌, List, [], ◌∷◌, ◌++◌, Option, Some, None, refl, sym, ap, ◌∙◌, subst, inl, inr, ◌⊎◌, cond, arith}
+use Rattle.std.proofs.Common.{◌≡◌, ℕ, zero, suc, Bool, true, false, ◌&&◌, List, [], ◌∷◌, Option, Some, None, refl, sym, ◌∙◌, subst, inl, inr, ◌⊎◌, cond, arith}
 use Rattle.std.proofs.lemmas.Bool.{and_from, and_parts}
-use Rattle.std.specs.Prelude.{filter, codes}
-use Rattle.std.specs.List.{list_any, flat_map}
+use Rattle.std.specs.Prelude.{codes}
+use Rattle.std.specs.List.{list_any}
 use Rattle.sd_dn.specs.declared.Pair.{Pair}
 use Rattle.sd_dn.specs.Comparing.{same_text, same_dn, ends_with}
 use Rattle.sd_dn.specs.Texts.{both_meet, spelled, same_dn_text}
@@ -15,10 +15,10 @@ use Rattle.sd_match.specs.Answering.{is_found, found}
 use Rattle.sd_nested.specs.Searches.{read_search}
 use Rattle.sd_nested.specs.Named.{is_group, own_members, member_values, group_values, user_name, user_names, listed}
 use Rattle.sd_nested.specs.Paths.{is_placed, placed_in, holds, members_in, reached}
-use Rattle.sd_nested.specs.Rounds.{Way, Rounds, rounds, beginning, member_way, member_start, first_values, new_among, dns_of}
-use Rattle.sd_nested.proofs.Same.{dn_texts_same, right_of, ends_alike, dns_same}
+use Rattle.sd_nested.specs.Rounds.{rounds, member_way, member_start, first_values}
+use Rattle.sd_nested.proofs.Same.{dn_texts_same, right_of, ends_alike}
 use Rattle.sd_nested.proofs.In.{In, in_flat, in_from, in_filter, filter_in, in_any, any_in, any_more, or_either}
-use Rattle.sd_nested.proofs.Marks.{admitted, met_by, all_met, taken, spelled_among}
+use Rattle.sd_nested.proofs.Marks.{admitted, all_met, taken, spelled_among}
 use Rattle.sd_nested.proofs.PathEnds.{ends, found_for, admitted_of, IsAlike, IsSound, IsMarked, AreAsked, all_sound, all_found}
 
 -- ---- entries of a class have a value of objectClass

@@ -1,11 +1,10 @@
 -- Texts and DNs that are equal without ASCII case: an equivalence.
 use Rattle.std.specs.Prelude.{nat_le}
-use Rattle.std.proofs.Common.{◌≡◌, ℕ, zero, suc, ◌-◌, length, drop, Bool, true, false, ◌&&◌, ◌==◌, List, [], ◌∷◌, Option, Some, None, refl, sym, ap, ◌∙◌, arith}
+use Rattle.std.proofs.Common.{◌≡◌, ℕ, zero, suc, ◌-◌, length, drop, Bool, true, ◌&&◌, ◌==◌, List, [], ◌∷◌, Option, Some, None, refl, ap, ◌∙◌, arith}
 use Rattle.std.proofs.lemmas.Bool.{eqb-true, eq-eqb, and_from, and_parts}
 use Rattle.std.specs.Char.{eq_ignore_ascii_case, to_ascii_lowercase}
 use Rattle.sd_dn.specs.declared.Pair.{Pair}
 use Rattle.sd_dn.specs.Comparing.{same_list, same_text, same_pair, same_rdn, same_dn, ends_with}
-use Rattle.sd_dn.specs.Reading.{is_dn}
 use Rattle.sd_dn.specs.Texts.{both_meet, spelled, same_dn_text}
 
 -- a test is symmetric, and what equals a thing meets what it meets

@@ -1,5 +1,5 @@
 -- What is sent of an entry says the same of its classes, names, numbers and members.
-use Rattle.std.proofs.Common.{◌≡◌, ℕ, Bool, true, false, not, ◌&&◌, ◌||◌, List, [], ◌∷◌, ◌++◌, map, Option, Some, None, refl, sym, ap, ◌∙◌, cond, ◌<◌, ◌+◌, length, take, get_or, append_assoc}
+use Rattle.std.proofs.Common.{◌≡◌, ℕ, Bool, true, false, not, ◌&&◌, ◌||◌, List, [], ◌∷◌, ◌++◌, map, Option, None, refl, sym, ap, ◌∙◌, cond, ◌<◌, ◌+◌, length, take, get_or, append_assoc}
 use Rattle.std.proofs.lemmas.Grind.{flat_map-append}
 use Rattle.std.proofs.lemmas.List.{take_more, append-nil}
 use Rattle.std.specs.Prelude.{filter, codes}
@@ -8,15 +8,15 @@ use Rattle.sd_dn.specs.Comparing.{same_text}
 use Rattle.sd_ldap.specs.declared.entry.Attribute.{Attribute}
 use Rattle.sd_ldap.specs.declared.entry.DirEntry.{DirEntry}
 use Rattle.sd_ldap.specs.Values.{SearchValue}
-use Rattle.sd_entry.specs.Values.{or_else, own_first, first_of, own_says, says, has_class, has_text}
+use Rattle.sd_entry.specs.Values.{or_else, own_first, first_of, own_says, says, has_class}
 use Rattle.sd_entry.specs.Users.{is_filled, holds_number, is_user}
 use Rattle.sd_match.specs.Answering.{found, is_password, is_asked, is_sent, sent, sent_attribute, sent_attributes}
 use Rattle.sd_rules.specs.declared.records.GroupRef.{GroupRef}
 use Rattle.sd_nested.specs.declared.rounds.Direction.{Direction}
 use Rattle.sd_nested.specs.declared.rounds.Direction.TheVariants as directions
 use Rattle.sd_nested.specs.Searches.{asked_attributes}
-use Rattle.sd_nested.specs.Named.{is_group, own_members, member_values, group_values, group_ref, called, number_from}
-use Rattle.sd_nested.specs.Directions.{user_ref, kept_by, leads_by, search_by, way_by}
+use Rattle.sd_nested.specs.Named.{is_group, own_members, member_values, called, number_from}
+use Rattle.sd_nested.specs.Directions.{kept_by, leads_by, search_by, way_by}
 use Rattle.sd_nested.proofs.Same.{texts_same}
 
 -- attributes of one name that is asked for

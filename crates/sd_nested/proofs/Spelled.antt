@@ -1,15 +1,14 @@
 -- Whether a text spells a DN does not depend on ASCII case.
-use Rattle.std.proofs.Common.{◌≡◌, ℕ, zero, suc, ◌+◌, ◌*◌, ◌<◌, ◌≤◌, Bool, true, false, ◌&&◌, ◌||◌, ◌==◌, List, [], ◌∷◌, ◌++◌, length, Option, Some, None, Result, Ok, Err, refl, sym, ap, ◌∙◌, cond, arith, lit<, inl, inr, ◌⊎◌}
-use Rattle.std.proofs.lemmas.Bool.{eqb-true, and_from, and_parts, cases_lt, lt-ltb, le-ltb}
+use Rattle.std.proofs.Common.{◌≡◌, ℕ, suc, ◌+◌, ◌*◌, ◌<◌, ◌≤◌, Bool, true, false, ◌&&◌, ◌||◌, ◌==◌, List, [], ◌∷◌, ◌++◌, length, Option, Some, None, Result, Ok, Err, refl, sym, ap, ◌∙◌, cond, arith, lit<, inl, inr}
+use Rattle.std.proofs.lemmas.Bool.{eqb-true, and_parts, cases_lt, lt-ltb, le-ltb}
 use Rattle.std.proofs.lemmas.Bool.Decides.{nat_tests}
-use Rattle.std.specs.Prelude.{nat_lt}
 use Rattle.std.specs.Option.{option_map, option_map_or}
 use Rattle.std.specs.Result.{is_ok, result_ok}
 use Rattle.std.specs.Char.{eq_ignore_ascii_case, to_ascii_lowercase, is_ascii_hexdigit, digit_value}
 use Rattle.sd_dn.specs.declared.Pair.{Pair}
-use Rattle.sd_dn.specs.Bytes.{is_type_byte, is_reserved, is_special, hex_pair}
-use Rattle.sd_dn.specs.Comparing.{same_list, same_text}
-use Rattle.sd_dn.specs.Texts.{both_meet, spelled, same_dn_text}
+use Rattle.sd_dn.specs.Bytes.{is_type_byte, is_reserved, is_special}
+use Rattle.sd_dn.specs.Comparing.{same_text}
+use Rattle.sd_dn.specs.Texts.{both_meet, spelled}
 use Rattle.sd_dn.specs.Reading.{Progress, Start, BeforeType, InType, BeforeEquals, InValue, InEscape, InHex, step, ending, run, is_dn, is_empty, spaced, grown, type_begun, type_ended, value_taken, pair_ended, rdn_ended}
 
 -- ---- what is asked of a byte

@@ -1,5 +1,5 @@
 -- Rounds one after the other.
-use Rattle.std.proofs.Common.{◌≡◌, ℕ, zero, suc, ◌+◌, ◌<◌, ◌≤◌, List, [], ◌∷◌, ◌++◌, map, Option, Some, None, refl, sym, ap, ◌∙◌, subst, append_assoc, append-nil, arith, inl, inr, ◌⊎◌}
+use Rattle.std.proofs.Common.{◌≡◌, ℕ, zero, suc, ◌+◌, ◌≤◌, List, [], ◌++◌, map, Some, None, refl, sym, ap, ◌∙◌, subst, append_assoc, append-nil, arith, inl, inr, ◌⊎◌}
 use Rattle.std.proofs.lemmas.List.{map-append}
 use Rattle.std.proofs.lemmas.Bool.{cases_lt}
 use Rattle.std.specs.List.{flat_map}
@@ -8,10 +8,10 @@ use Rattle.sd_nested.specs.declared.searcher.Stop.{Stop}
 use Rattle.sd_nested.specs.declared.searcher.Stop.TheVariants as stops
 use Rattle.sd_nested.specs.Searches.{Question, Exchange}
 use Rattle.sd_nested.specs.Asking.{AskedOf, Exchanged, ExchangedOver, questions}
-use Rattle.sd_nested.specs.Rounds.{Way, Rounds, going_on, new_among, round_by, next_round, rounds, dns_of}
+use Rattle.sd_nested.specs.Rounds.{Way, Rounds, new_among, next_round, rounds, dns_of}
 use Rattle.sd_nested.specs.declared.rounds.Direction.{Direction}
 use Rattle.sd_nested.specs.declared.rounds.Direction.TheVariants as directions
-use Rattle.sd_nested.specs.Directions.{admits_by, leads_by, kept_by, way_by}
+use Rattle.sd_nested.specs.Directions.{admits_by, leads_by, way_by}
 use Rattle.sd_rules.specs.declared.records.GroupRef.{GroupRef}
 use Rattle.std.proofs.lemmas.Grind.{flat_map-append}
 use Rattle.sd_dn.specs.declared.Pair.{Pair}
@@ -66,6 +66,10 @@ ended went a b q tells before all g f = record { exchanges = g.exchanges; in_ord
 -- memory was wanting when all was asked
 pub starved_after : {S : Type 0} (went : S → Exchange → S → Type 0) (a b : S) (tells : List DirEntry → Type 0) (due : List DirEntry → List Question) → ExchangedOver went a b None tells due → ExchangedOver went a b (Some stops.Memory) tells due
 starved_after went a b tells due g = record { exchanges = g.exchanges; in_order = g.in_order; ends = tt; asked = λ told t. ([], append-nil (questions g.exchanges) ∙ g.asked told t) }
+
+-- memory was wanting before anything was asked
+pub starved_before : {S : Type 0} (went : S → Exchange → S → Type 0) (a : S) (tells : List DirEntry → Type 0) (due : List DirEntry → List Question) → ExchangedOver went a a (Some stops.Memory) tells due
+starved_before went a tells due = record { exchanges = []; in_order = refl; ends = tt; asked = λ told t. (due told, refl) }
 
 -- nothing asked, where nothing is due
 pub nothing_over : {S : Type 0} (went : S → Exchange → S → Type 0) (a : S) (tells : List DirEntry → Type 0) (due : List DirEntry → List Question) → ((told : List DirEntry) → tells told → due told ≡ []) → ExchangedOver went a a None tells due

@@ -1,10 +1,9 @@
 -- The two directions: from groups to their members, and from members to the groups that hold them.
-use Rattle.std.specs.Prelude.{◌≡◌, ◌≢◌, ℕ, Bool, true, if◌then◌else◌, List, [], ◌∷◌, Option, Some, None, Result, Ok, Err, codes}
+use Rattle.std.specs.Prelude.{◌≡◌, ◌≢◌, ℕ, Bool, true, if◌then◌else◌, List, [], ◌∷◌, None, Result, Ok, Err, codes}
 use Rattle.sd_dn.specs.declared.Pair.{Pair}
 use Rattle.sd_dn.specs.Comparing.{ends_with}
 use Rattle.sd_ldap.specs.declared.entry.DirEntry.{DirEntry}
 use Rattle.sd_ldap.specs.Values.{SearchValue}
-use Rattle.sd_match.specs.Answering.{found}
 use Rattle.sd_entry.specs.Values.{first_of}
 use Rattle.sd_entry.specs.Users.{is_user}
 use Rattle.sd_dial.specs.declared.searched.Searched.{Searched}

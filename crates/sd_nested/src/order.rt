@@ -1,28 +1,19 @@
 //! Names in byte order, each once.
-ghost use Rattle.std.specs.Prelude.{◌≡◌, ℕ, List, Bool, Option, map, OnOk, IfOk};
+ghost use Rattle.std.specs.Prelude.{◌≡◌, ℕ, List, Bool, Option, if◌then◌else◌, IfOk};
+ghost use Rattle.std.specs.Cmp.Lexicographic.{slice_cmp};
+ghost use Rattle.std.specs.Ordering.{nat_cmp};
 ghost use Rattle.sd_rules.specs.Keys.{same_name};
 ghost use Rattle.sd_nested.specs.Order as order;
 
 use sd_base::{Copied, Memory, Text, Texts};
 use sd_rules::{GroupRef, GroupRefs};
 use std::alloc::Global;
+use std::cmp::Ordering;
 
-/// Whether a text is before another in byte order.
-fn is_before(a: &[u8], b: &[u8]) -> bool
-    ensures { result ≡ order.is_before a.now b.now }
+fn name_cmp(a: &Text, b: &Text) -> Ordering
+    ensures { result ≡ slice_cmp nat_cmp a.now b.now }
 {
-    for place in 0..a.len() {
-        if place >= b.len() {
-            return false;
-        }
-        if a[place] < b[place] {
-            return true;
-        }
-        if a[place] > b[place] {
-            return false;
-        }
-    }
-    a.len() < b.len()
+    a.bytes().cmp(b.bytes())
 }
 
 fn is_same(a: &Text, b: &Text) -> bool
@@ -31,21 +22,14 @@ fn is_same(a: &Text, b: &Text) -> bool
     a == b
 }
 
-/// Puts a name in its place, where it is not there yet.
-fn put_name(names: &mut Vec<Text>, name: &Text) -> Result<(), Memory>
-    ensures { OnOk result (names.new.items ≡ order.with_name name.now names.old.items) }
+fn names_of(alloc: Global, refs: &[GroupRef]) -> Result<Vec<Text>, Memory>
+    ensures { IfOk result (λ names. names.items ≡ order.names_of refs.now) }
 {
-    for place in 0..names.len() {
-        if is_same(name, &names[place]) {
-            return Ok(());
-        }
-        if is_before(name.bytes(), names[place].bytes()) {
-            names.insert(place, name.copy()?)?;
-            return Ok(());
-        }
+    let mut names = Vec::new(alloc);
+    for group in refs {
+        names.push(group.name.copy()?)?;
     }
-    names.push(name.copy()?)?;
-    Ok(())
+    Ok(names)
 }
 
 fn texts_of(alloc: Global, names: Vec<Text>) -> Result<Texts, Memory>
@@ -60,13 +44,13 @@ fn texts_of(alloc: Global, names: Vec<Text>) -> Result<Texts, Memory>
 
 /// The names, in byte order, each once.
 pub fn names_in_order(alloc: Global, refs: &[GroupRef]) -> Result<Texts, Memory>
-    ensures { IfOk result (λ names. names ≡ order.in_order (order.names_of refs.now)) }
+    ensures { IfOk result (order.AreInOrder (order.names_of refs.now)) }
 {
-    let mut names = Vec::new(alloc);
-    for place in (0..refs.len()).rev() {
-        put_name(&mut names, &refs[place].name)?;
-    }
-    texts_of(alloc, names)
+    let mut names = names_of(alloc, refs)?;
+    names.sort_by(|a, b| name_cmp(a, b))?;
+    names.dedup();
+    let names = texts_of(alloc, names)?;
+    Ok(names)
 }
 
 fn lesser(a: Option<u32>, b: Option<u32>) -> Option<u32>
@@ -79,36 +63,45 @@ fn lesser(a: Option<u32>, b: Option<u32>) -> Option<u32>
     }
 }
 
-/// The least number of those with this name.
-fn least_gid(name: &Text, refs: &[GroupRef]) -> Option<u32>
-    ensures { result ≡ order.least_gid name.now refs.now }
+fn copies_of(alloc: Global, refs: &[GroupRef]) -> Result<Vec<GroupRef>, Memory>
+    ensures { IfOk result (λ made. made.items ≡ refs.now) }
 {
-    let mut least = None;
-    for place in (0..refs.len()).rev() {
-        if is_same(&refs[place].name, name) {
-            least = lesser(refs[place].gid, least);
-        }
-    }
-    least
-}
-
-fn refs_among(alloc: Global, names: &[Text], refs: &[GroupRef]) -> Result<GroupRefs, Memory>
-    ensures { IfOk result (λ made. made ≡ map (order.ref_among refs.now) names.now) }
-{
-    let mut made = GroupRefs::new(alloc);
-    for name in names {
-        made.push(GroupRef {
-            name: name.copy()?,
-            gid: least_gid(name, refs),
-        })?;
+    let mut made = Vec::new(alloc);
+    for group in refs {
+        made.push(group.copy()?)?;
     }
     Ok(made)
 }
 
+fn refs_of(alloc: Global, those: Vec<GroupRef>) -> Result<GroupRefs, Memory>
+    ensures { IfOk result (λ refs. refs ≡ those.items) }
+{
+    let mut refs = GroupRefs::new(alloc);
+    for group in those {
+        refs.push(group)?;
+    }
+    Ok(refs)
+}
+
+/// Whether a group has the name of the one before it, which then takes its number where that is less.
+fn is_joined(before: &mut GroupRef, group: &GroupRef) -> bool
+    ensures same { result ≡ same_name group.now.name before.old.name }
+    ensures before { before.new ≡ (if result then order.with_lesser before.old group.now else before.old) }
+{
+    if !is_same(&group.name, &before.name) {
+        return false;
+    }
+    before.gid = lesser(before.gid, group.gid);
+    true
+}
+
 /// The groups in byte order of their names, each name once, with the least number of that name.
 pub fn refs_in_order(alloc: Global, refs: &[GroupRef]) -> Result<GroupRefs, Memory>
-    ensures { IfOk result (λ made. made ≡ order.refs_in_order refs.now) }
+    ensures { IfOk result (order.AreRefsInOrder refs.now) }
 {
-    let names = names_in_order(alloc, refs)?;
-    refs_among(alloc, names.items(), refs)
+    let mut groups = copies_of(alloc, refs)?;
+    groups.sort_by(|a, b| name_cmp(&a.name, &b.name))?;
+    groups.dedup_by(|group, before| is_joined(before, group));
+    let groups = refs_of(alloc, groups)?;
+    Ok(groups)
 }

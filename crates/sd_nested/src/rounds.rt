@@ -10,15 +10,13 @@ ghost use Rattle.sd_nested.specs.Rounds.{is_new, listed_dn, dns_of, new_among, r
 
 use crate::named::{push_group, push_group_values, push_user};
 use crate::searcher::{Searcher, Stop};
-use sd_base::{Copied, Items, Memory, Text, Texts};
+use sd_base::{Copied, Memory, Text, Texts};
 use sd_dial::Searched;
-use sd_dn::{Dn, dn_equal, is_at_or_under, spelled};
+use sd_dn::{Dn, is_at_or_under, spelled};
 use sd_ldap::{DirEntries, DirEntry};
+use sd_names::DnSet;
 use sd_rules::GroupRefs;
 use std::alloc::Global;
-
-/// A list of DNs.
-pub type Dns = Items<Dn>;
 
 /// Where the rounds go.
 #[derive(Drop)]
@@ -40,14 +38,8 @@ fn admits(direction: &Direction, dn: &Dn) -> bool
     }
 }
 
-fn is_seen(seen: &[Dn], dn: &Dn) -> bool
-    ensures { result ≡ list_any (same_dn dn.now) seen.now }
-{
-    seen.iter().any(|other| dn_equal(dn, other))
-}
-
 /// Marks the DN that a text spells, where it is admitted and new, and says whether it is.
-fn mark(alloc: Global, direction: &Direction, seen: &mut Dns, text: &Text) -> Result<bool, Memory>
+fn mark(alloc: Global, direction: &Direction, seen: &mut DnSet, text: &Text) -> Result<bool, Memory>
     ensures new { IfOk result (λ new. new ≡ is_new (admits_by direction.now) seen.old (texts.spelled text.now)) }
     ensures seen { IfOk result (λ new. seen.new ≡ (if new then seen.old ++ listed_dn (texts.spelled text.now) else seen.old)) }
 {
@@ -57,18 +49,15 @@ fn mark(alloc: Global, direction: &Direction, seen: &mut Dns, text: &Text) -> Re
     if !admits(direction, &dn) {
         return Ok(false);
     }
-    if is_seen(seen.items(), &dn) {
-        return Ok(false);
-    }
-    seen.push(dn)?;
-    Ok(true)
+    let new = seen.insert(alloc, dn)?;
+    Ok(new)
 }
 
 /// The texts whose DNs are admitted and new, each DN once; these DNs are marked.
 pub fn mark_new(
     alloc: Global,
     direction: &Direction,
-    seen: &mut Dns,
+    seen: &mut DnSet,
     onward: &[Text],
 ) -> Result<Texts, Memory>
     ensures due { IfOk result (λ due. due ≡ new_among (admits_by direction.now) seen.old onward.now) }
@@ -176,7 +165,7 @@ fn go_round<S: Searcher>(
     searcher: &mut S,
     direction: &Direction,
     due: &[Text],
-    seen: &mut Dns,
+    seen: &mut DnSet,
     kept: &mut GroupRefs,
 ) -> Result<Texts, Stop>
     ensures tells { (told : List DirEntry) → S.tells searcher.old told → S.tells searcher.new told }
@@ -197,7 +186,7 @@ pub fn go_rounds<S: Searcher>(
     alloc: Global,
     searcher: &mut S,
     direction: &Direction,
-    seen: Dns,
+    seen: DnSet,
     first: Texts,
     level: u32,
 ) -> Result<GroupRefs, Stop>

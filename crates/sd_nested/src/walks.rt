@@ -9,11 +9,12 @@ ghost use Rattle.sd_nested.specs.Asking.{ExchangedOver, stop_of};
 
 use crate::named::push_group_values;
 use crate::order::{names_in_order, refs_in_order};
-use crate::rounds::{Direction, Dns, go_rounds, mark_new};
+use crate::rounds::{Direction, go_rounds, mark_new};
 use crate::searcher::{Searcher, Stop};
 use sd_base::{Copied, Texts};
 use sd_dn::Dn;
 use sd_ldap::DirEntry;
+use sd_names::DnSet;
 use sd_rules::GroupRefs;
 use std::alloc::Global;
 
@@ -35,7 +36,7 @@ pub fn members<S: Searcher>(
     let direction = Direction::Members(base.copy()?);
     let mut values = Texts::new(alloc);
     push_group_values(&mut values, group)?;
-    let mut seen = Dns::new(alloc);
+    let mut seen = DnSet::new(alloc);
     let first = mark_new(alloc, &direction, &mut seen, values.items())?;
     let kept = go_rounds(alloc, searcher, &direction, seen, first, level)?;
     let names = names_in_order(alloc, kept.items())?;
@@ -59,7 +60,7 @@ pub fn groups_of<S: Searcher>(
 {
     let mut first = Texts::new(alloc);
     first.push(user.dn.copy()?)?;
-    let seen = Dns::new(alloc);
+    let seen = DnSet::new(alloc);
     let kept = go_rounds(alloc, searcher, &Direction::Holders, seen, first, level)?;
     let groups = refs_in_order(alloc, kept.items())?;
     Ok(groups)

@@ -1,4 +1,4 @@
-use Rattle.std.proofs.Common.{◌≡◌, List, [], ◌∷◌, Some, sym, ap, subst}
+use Rattle.std.proofs.Common.{[], ◌∷◌, Some, sym, subst}
 use Rattle.sd_nested.specs.declared.rounds.Direction.{Direction}
 use Rattle.sd_nested.specs.Searches.{entry_at, holders_of}
 use Rattle.sd_nested.specs.Asking.{Exchanged, stop_of}

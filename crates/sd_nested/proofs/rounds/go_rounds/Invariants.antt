@@ -1,8 +1,8 @@
-use Rattle.std.proofs.Common.{◌≡◌, ◌++◌, List, map, Some, None}
+use Rattle.std.proofs.Common.{◌≡◌, List, map, None}
 use Rattle.std.specs.List.{flat_map}
 use Rattle.sd_ldap.specs.declared.entry.DirEntry.{DirEntry}
 use Rattle.sd_nested.specs.Asking.{ExchangedOver}
-use Rattle.sd_nested.specs.Rounds.{Rounds, rounds, beginning}
+use Rattle.sd_nested.specs.Rounds.{rounds, beginning}
 use Rattle.sd_nested.specs.Directions.{question_by, kept_by, way_by}
 use Rattle.sd_nested.proofs.rounds.go_rounds.Given as goal
 

@@ -1,14 +1,19 @@
-use Rattle.std.proofs.Common.{◌≡◌, ℕ, List, [], ◌++◌, map, Option, Some, None, Result, Err, sym, ap, ◌∙◌, subst}
+use Rattle.std.proofs.Common.{◌≡◌, ℕ, List, map, Some, None, Result, Err, sym, ap, ◌∙◌, subst}
 use Rattle.std.proofs.lemmas.Result.{err_from_is_err_and}
-use Rattle.sd_ldap.specs.declared.entry.DirEntry.{DirEntry}
 use Rattle.sd_nested.specs.declared.searcher.Stop.{Stop}
-use Rattle.sd_nested.specs.declared.searcher.Stop.TheVariants as stops
 use Rattle.sd_nested.specs.Searches.{entry_at}
 use Rattle.sd_nested.specs.Asking.{ExchangedOver, stop_of}
 use Rattle.sd_nested.specs.Rounds.{beginning, member_start, member_reads}
 use Rattle.sd_nested.proofs.Found.{members_found, starts_so, reads_so, kept_so}
-use Rattle.sd_nested.proofs.Turns.{starved_after}
+use Rattle.sd_nested.proofs.Turns.{starved_before, starved_after}
 use Rattle.sd_nested.proofs.walks.members.Goals as goal
+
+pub returns-in_err-first-clause-exchanged : goal.returns-in_err-first-clause-exchanged
+returns-in_err-first-clause-exchanged g c =
+    let p = err_from_is_err_and c.from_residual-in_err-first.result c.from_residual-in_err-first.ensures.1 in
+    subst (λ (r : Result (List (List ℕ)) Stop). ExchangedOver g.S.Searcher.went c.args.searcher.now c.args.searcher.now (stop_of r) (g.S.Searcher.tells c.args.searcher.now) (λ told. map entry_at (member_reads told c.args.base.now c.args.level c.args.group.now)))
+    (sym (p.1 ∙ ap (λ (s : Stop). Err s) p.2))
+    (starved_before g.S.Searcher.went c.args.searcher.now (g.S.Searcher.tells c.args.searcher.now) (λ told. map entry_at (member_reads told c.args.base.now c.args.level c.args.group.now)))
 
 pub returns-in_err-kept-clause-exchanged : goal.returns-in_err-kept-clause-exchanged
 returns-in_err-kept-clause-exchanged g c =
