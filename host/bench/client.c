@@ -6,12 +6,15 @@
  *                `logins SOCKET`, `checks SOCKET`: logins, and account checks for the service sshd, by its frames;
  *                `pam FOLDER`: logins by PAM, by the service `login` of that folder. Passwords are `pw-NAME`
  *   COMMAND      `loop CLIENTS SECONDS PREFIX COUNT`   each client asks again and again for PREFIX and a number below COUNT
+ *                `many CLIENTS TIMES PREFIX COUNT`     the same until all together asked so many times
  *                `each PREFIX FROM COUNT`              one client asks for so many names, one after the other
  *                `burst CLIENTS NAME`                  all clients ask for one name at once
- *                `first NAME`                          asks until the name is found, for at most 30 seconds
+ *                `first NAME`                          asks until the name is found, for at most 60 seconds
  *
- * Clients are processes. It prints what was asked, how many of it was found, seconds, and the times of answers in
- * microseconds; for `first` the moment of the answer, by the monotonic clock in nanoseconds. */
+ * Clients are processes. Those of a loop ask for a while before the time begins, until the system has found each a
+ * processor. It prints what was asked, how many of it was found, seconds, the times of answers in microseconds, and how
+ * many answers came before the time; for `first` a line once it has asked, and the moment of the answer, by the monotonic
+ * clock in nanoseconds. */
 #include <dlfcn.h>
 #include <errno.h>
 #include <nss.h>
@@ -32,18 +35,32 @@
 
 #include "frames.h"
 
-enum { MOST_CLIENTS = 256, SECONDS_AT_MOST = 120, ROOM = 1 << 16 };
+enum { MOST_CLIENTS = 256, SECONDS_AT_MOST = 120, SECONDS_OF_FIRST = 60, ROOM = 1 << 16 };
+
+/* How long the clients of a loop ask before the time begins, in nanoseconds. */
+static const uint64_t AHEAD = 200000000;
 
 /* Cells of times: 32 for each power of two nanoseconds, so a time is at most 3 % too high. */
 enum { PARTS = 32, CELLS = PARTS * 42 };
 
 struct tally {
     uint64_t cells[CELLS];
-    uint64_t asked, found;
+    uint64_t asked, found, ahead;
+    /* When its last answer came. */
+    uint64_t ended;
+};
+
+/* What each client does: it asks for the time of a loop, or so many times. Without `count` it asks for the prefix itself. */
+struct task {
+    uint64_t nanoseconds, times;
+    const char *prefix;
+    unsigned count;
 };
 
 struct shared {
-    atomic_int ready, go;
+    atomic_int ready;
+    /* The moment at which the time begins; none before all are ready. */
+    atomic_ullong begin;
     struct tally tallies[MOST_CLIENTS];
 };
 
@@ -276,7 +293,8 @@ static void ask_timed(struct tally *tally, const char *name)
     uint64_t began = now();
     bool found = ask(name);
 
-    tally->cells[cell_of(now() - began)]++;
+    tally->ended = now();
+    tally->cells[cell_of(tally->ended - began)]++;
     tally->asked++;
     tally->found += found;
 }
@@ -296,8 +314,9 @@ static double percentile(const struct tally *tally, unsigned share)
 
 static void report(const struct tally *tally, double seconds)
 {
-    printf("asked %llu found %llu seconds %.3f p50 %.1f p99 %.1f\n", (unsigned long long)tally->asked,
-           (unsigned long long)tally->found, seconds, percentile(tally, 50), percentile(tally, 99));
+    printf("asked %llu found %llu seconds %.3f p50 %.1f p99 %.1f ahead %llu\n", (unsigned long long)tally->asked,
+           (unsigned long long)tally->found, seconds, percentile(tally, 50), percentile(tally, 99),
+           (unsigned long long)tally->ahead);
 }
 
 static uint64_t next_random(uint64_t *state)
@@ -308,40 +327,48 @@ static uint64_t next_random(uint64_t *state)
     return *state;
 }
 
-/* What one client does; without seconds it asks for the name itself, once. */
-static void be_client(struct shared *shared, int number, double seconds, const char *prefix, unsigned count)
+static void choose_name(char *name, size_t room, const struct task *task, uint64_t *state)
+{
+    if (task->count > 0)
+        snprintf(name, room, "%s%llu", task->prefix, (unsigned long long)(next_random(state) % task->count));
+    else
+        snprintf(name, room, "%s", task->prefix);
+}
+
+static void be_client(struct shared *shared, int number, const struct task *task)
 {
     struct tally *tally = &shared->tallies[number];
-    uint64_t state = 88172645463325252u + 7919 * (uint64_t)number, end;
+    uint64_t state = 88172645463325252u + 7919 * (uint64_t)number, begin;
     char name[300];
 
     open_place();
-    if (seconds > 0) {
+    if (task->count > 0) {
         /* Opens what is opened late. */
-        snprintf(name, sizeof name, "%s0", prefix);
+        choose_name(name, sizeof name, task, &state);
         ask(name);
+        tally->ahead++;
     }
     atomic_fetch_add(&shared->ready, 1);
-    while (!atomic_load(&shared->go))
+    while ((begin = atomic_load(&shared->begin)) == 0)
         rest(200000);
-    end = now() + (uint64_t)(seconds * 1e9);
+    while (now() < begin) {
+        choose_name(name, sizeof name, task, &state);
+        ask(name);
+        tally->ahead++;
+    }
     do {
-        if (seconds > 0)
-            snprintf(name, sizeof name, "%s%llu", prefix, (unsigned long long)(next_random(&state) % count));
-        else
-            snprintf(name, sizeof name, "%s", prefix);
+        choose_name(name, sizeof name, task, &state);
         ask_timed(tally, name);
-    } while (now() < end);
+    } while (task->nanoseconds > 0 ? now() < begin + task->nanoseconds : tally->asked < task->times);
 }
 
-static int run_clients(int clients, double seconds, const char *prefix, unsigned count)
+static int run_clients(int clients, const struct task *task)
 {
     struct shared *shared = mmap(NULL, sizeof *shared, PROT_READ | PROT_WRITE, MAP_SHARED | MAP_ANONYMOUS, -1, 0);
     struct tally all = { 0 };
-    uint64_t began;
     int status, failed = 0;
 
-    if (shared == MAP_FAILED || clients < 1 || clients > MOST_CLIENTS || count < 1)
+    if (shared == MAP_FAILED || clients < 1 || clients > MOST_CLIENTS)
         fail("not so many clients");
     for (int number = 0; number < clients; number++) {
         pid_t child = fork();
@@ -351,14 +378,13 @@ static int run_clients(int clients, double seconds, const char *prefix, unsigned
         if (child == 0) {
             prctl(PR_SET_PDEATHSIG, SIGKILL);
             alarm(SECONDS_AT_MOST);
-            be_client(shared, number, seconds, prefix, count);
+            be_client(shared, number, task);
             _exit(0);
         }
     }
     while (atomic_load(&shared->ready) < clients)
         rest(200000);
-    began = now();
-    atomic_store(&shared->go, 1);
+    atomic_store(&shared->begin, now() + (task->nanoseconds > 0 ? AHEAD : 0));
     while (wait(&status) > 0)
         failed += status != 0;
     for (int number = 0; number < clients; number++) {
@@ -366,11 +392,28 @@ static int run_clients(int clients, double seconds, const char *prefix, unsigned
 
         all.asked += tally->asked;
         all.found += tally->found;
+        all.ahead += tally->ahead;
+        if (tally->ended > all.ended)
+            all.ended = tally->ended;
         for (int cell = 0; cell < CELLS; cell++)
             all.cells[cell] += tally->cells[cell];
     }
-    report(&all, (double)(now() - began) / 1e9);
+    report(&all, (double)(all.ended - atomic_load(&shared->begin)) / 1e9);
     return failed > 0;
+}
+
+static int ask_together(char **words, bool is_timed)
+{
+    int clients = atoi(words[0]);
+    struct task task = { .prefix = words[2], .count = (unsigned)atoi(words[3]) };
+
+    if (clients < 1 || task.count < 1)
+        fail("not so many clients");
+    if (is_timed)
+        task.nanoseconds = (uint64_t)(atof(words[1]) * 1e9);
+    else
+        task.times = strtoull(words[1], NULL, 10) / (unsigned)clients;
+    return run_clients(clients, &task);
 }
 
 static int ask_each(const char *prefix, unsigned from, unsigned count)
@@ -391,15 +434,23 @@ static int ask_each(const char *prefix, unsigned from, unsigned count)
 
 static int ask_first(const char *name)
 {
-    uint64_t end = now() + 30000000000u;
+    uint64_t end = now() + SECONDS_OF_FIRST * 1000000000ull;
+    bool has_told = false;
 
     if (kind == MODULE)
         open_module();
     do {
-        if (ask(name)) {
-            printf("%llu\n", (unsigned long long)now());
+        bool found = ask(name);
+        uint64_t answered = now();
+
+        if (!has_told)
+            printf("asking\n");
+        has_told = true;
+        if (found)
+            printf("%llu\n", (unsigned long long)answered);
+        fflush(stdout);
+        if (found)
             return 0;
-        }
         rest(200000);
     } while (now() < end);
     return 1;
@@ -428,14 +479,14 @@ int main(int count, char **words)
         place = words[2];
         words += 4;
     }
-    if (strcmp(command, "loop") == 0 && left == 4)
-        return run_clients(atoi(words[0]), atof(words[1]), words[2], (unsigned)atoi(words[3]));
+    if ((strcmp(command, "loop") == 0 || strcmp(command, "many") == 0) && left == 4)
+        return ask_together(words, strcmp(command, "loop") == 0);
     if (strcmp(command, "each") == 0 && left == 3)
         return ask_each(words[0], (unsigned)atoi(words[1]), (unsigned)atoi(words[2]));
     if (strcmp(command, "burst") == 0 && left == 2)
-        return run_clients(atoi(words[0]), 0, words[1], 1);
+        return run_clients(atoi(words[0]), &(struct task){ .times = 1, .prefix = words[1] });
     if (strcmp(command, "first") == 0 && left == 1)
         return ask_first(words[0]);
-    fprintf(stderr, "client frames|anew|logins|checks SOCKET, module FILE, libc - or pam FOLDER, then loop|each|burst|first ..\n");
+    fprintf(stderr, "client frames|anew|logins|checks SOCKET, module FILE, libc - or pam FOLDER, then loop|many|each|burst|first ..\n");
     return 2;
 }

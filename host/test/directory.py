@@ -1,7 +1,7 @@
 #!/usr/bin/env python3
 """The directory of the host's tests: users, nested groups, a host, services and access rules.
 
-    directory.py [--members N] [--rules N] [BASE]
+    directory.py [--members N] [--crowd N] [--rules N] [BASE]
 
 prints it as LDIF; the module is also what the tests' stand-in for a daemon answers from. The places are
 those that the daemon asks: users under cn=users,cn=accounts, groups under cn=groups,cn=accounts, hosts
@@ -32,10 +32,10 @@ class Rule:
 
 
 class Directory:
-    """`members` users m0, m1, .. are all in the group `crowd`. Of more than one rule the last lets them in by sshd, and those
-    between let a group in by a service that nobody asks for."""
+    """`members` users m0, m1, .. are all in the group `crowd`, or as many of them as `crowd` says. Of more than one rule the
+    last lets them in by sshd, and those between let a group in by a service that nobody asks for."""
 
-    def __init__(self, members=2000, rules=1):
+    def __init__(self, members=2000, rules=1, crowd=None):
         self.users = [
             User("alice", 10001, 10001, "wonderland", "Alice Liddell", "/bin/bash"),
             User("bob", 10002, 10002, "builder"),
@@ -50,7 +50,7 @@ class Directory:
             Group("crew", 30001, ["alice", "bob"]),
             Group("engineers", 30002, ["carol"], ["crew"]),
             Group("everyone", 30003, ["dave", "comma,name"], ["engineers"]),
-            Group("crowd", 30004, ["m%d" % i for i in range(members)]),
+            Group("crowd", 30004, ["m%d" % i for i in range(members if crowd is None else min(crowd, members))]),
             Group("zero", 0, ["alice"]),
         ]
         self.rules = [Rule("engineers_log_in", ["engineers"], ["sshd", "login", "su-l"])]
@@ -133,7 +133,8 @@ def print_ldif(directory, base, out):
 if __name__ == "__main__":
     parser = argparse.ArgumentParser()
     parser.add_argument("--members", type=int, default=2000)
+    parser.add_argument("--crowd", type=int)
     parser.add_argument("--rules", type=int, default=1)
     parser.add_argument("base", nargs="?", default=BASE)
     words = parser.parse_args()
-    print_ldif(Directory(words.members, words.rules), words.base, sys.stdout)
+    print_ldif(Directory(words.members, words.rules, words.crowd), words.base, sys.stdout)
