@@ -2,7 +2,7 @@
 use Rattle.std.specs.Prelude.{ℕ, Bool, true, false, ◌==◌, List, [], ◌∷◌, codes, if◌then◌else◌}
 use Rattle.sd_rules.specs.Keys.{same_name}
 use Rattle.sd_lines.specs.declared.lines.Line.{Line}
-use Rattle.sd_lines.specs.declared.lines.Line.TheVariants.{Blank, Offline, Online, Hold, Go, Journal, Bad}
+use Rattle.sd_lines.specs.declared.lines.Line.TheVariants.{Blank, Offline, Online, Hold, Go, Forget, Journal, Bad}
 use Rattle.sd_lines.specs.Accounts.{user_by_words, group_by_words}
 use Rattle.sd_lines.specs.Access.{host_by_words, service_by_words, rule_by_words, remove_by_words}
 use Rattle.sd_lines.specs.Daemon.{at_moment, server_by_words, void_form}
@@ -33,6 +33,7 @@ event_form w ws =
     if same_name w (codes "void") then void_form ws
     else if same_name w (codes "offline") then bare Offline ws
     else if same_name w (codes "online") then bare Online ws
+    else if same_name w (codes "forget") then bare Forget ws
     else if same_name w (codes "journal") then bare Journal ws
     else if same_name w (codes "at") then at_moment (one_of ws)
     else if same_name w (codes "server") then server_by_words (first_of ws)

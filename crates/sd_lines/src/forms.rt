@@ -62,6 +62,9 @@ fn event_form(alloc: Global, first: &[u8], ws: &[&[u8]]) -> Result<Line, Memory>
     if first == b"online".as_slice() {
         return Ok(bare(Line::Online, ws));
     }
+    if first == b"forget".as_slice() {
+        return Ok(bare(Line::Forget, ws));
+    }
     if first == b"journal".as_slice() {
         return Ok(bare(Line::Journal, ws));
     }

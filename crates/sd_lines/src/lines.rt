@@ -141,6 +141,8 @@ pub enum Line {
     Step(u64, u64),
     /// This task leaves.
     Abandon(u64),
+    /// The core forgets the entries that no later event can look at.
+    Forget,
     /// The journal is printed.
     Journal,
     /// The line has no form.

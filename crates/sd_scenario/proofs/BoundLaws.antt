@@ -9,8 +9,9 @@ use Rattle.sd_rules.specs.Scripts.{awaits_reply, is_saying}
 use Rattle.sd_rules.specs.Steps.{Daemon, after, full_count, given, is_full}
 use Rattle.sd_scenario.specs.Clients.{Client, asked, is_end, is_settled, need_of}
 use Rattle.sd_scenario.specs.Tasks.{World, Act, Endless, ◌>>=◌, abandoned, act_of, at_text, client_left_at, client_left_by, client_moved_at, client_moved_by, gone_act, happened, has_ended_at, is_ready, is_ready_at, left_at, left_by, most_moves, move_at, moved, moves_at, next_up, run_from, run_on, ticket_left, with_act}
+use Rattle.sd_scenario.specs.Transcript.{forgot}
 use Rattle.sd_scenario.proofs.MoveLaws.{Bounded, IsMove, bounded_as, bounded_then, moved_bounded, ready_is_open}
-use Rattle.sd_scenario.proofs.RoomLaws.{HasRoom, room_after, within_limit}
+use Rattle.sd_scenario.proofs.RoomLaws.{AreNumbered, entries_within, numbered_after, numbered_forgot, places_few, places_of}
 
 -- ---- what lasts from line to line
 
@@ -25,11 +26,11 @@ abbrev pub EachPoised : List Client → Type 0
 EachPoised [] = Unit {0}
 EachPoised (c ∷ cs) = (is_poised c ≡ true) × EachPoised cs
 
--- The limit is that of the daemon's settings, its journal is within it, and each client has ended, needs an event, or is to be told
--- the one thing and then ends.
+-- The limit is that of the daemon's settings, the numbers of its journal fall, and each client has ended, needs an event, or is to be
+-- told the one thing and then ends.
 pub record IsBounded (w : World) : Type 0 where
   pub limit : w.limit ≡ w.daemon.settings.journal_limit
-  pub room : HasRoom w.daemon
+  pub numbered : AreNumbered w.daemon
   pub poised : EachPoised w.clients
 
 abbrev one_unless : Bool → ℕ
@@ -44,7 +45,7 @@ open_clients (c ∷ cs) = open_one c + open_clients cs
 
 -- the moves that are left: the places of the journal that are free, and the clients that have not ended
 abbrev pub moves_left : World → ℕ
-moves_left w = (w.limit - length w.daemon.past) + open_clients w.clients
+moves_left w = (places_of w.daemon - length w.daemon.past) + open_clients w.clients
 
 -- ---- one client among the others
 
@@ -109,31 +110,29 @@ both_second : (a b : Bool) → (a && b) ≡ true → b ≡ true
 both_second true b h = h
 both_second false b h = cc
 
-lower_by_entry : (limit old new before now one : ℕ) → new ≡ old + 1 → new ≤ limit → now + 1 ≡ before + one → one ≤ 1 → (limit - new) + now < (limit - old) + before
-lower_by_entry limit old new before now one f g h i = omega (arith, f, g, h, i)
+lower_by_entry : (most least old new before now one : ℕ) → least ≤ most → new ≡ old + 1 → new ≤ least → now + 1 ≡ before + one → one ≤ 1 → (least - new) + now < (most - old) + before
+lower_by_entry most least old new before now one l f g h i = omega (arith, l, f, g, h, i)
 
-lower_by_end : (limit old new before now one : ℕ) → new ≡ old → now + 1 ≡ before + one → one ≡ 0 → (limit - new) + now < (limit - old) + before
-lower_by_end limit old new before now one f h i = omega (arith, f, h, i)
+lower_by_end : (most least old new before now one : ℕ) → least ≤ most → new ≡ old → now + 1 ≡ before + one → one ≡ 0 → (least - new) + now < (most - old) + before
+lower_by_end most least old new before now one l f h i = omega (arith, l, f, h, i)
 
 move_bounded : (w : World) (place : ℕ) (c : Client) (a : Act) → IsBounded w → IsMove (need_of c) (act_of w c) a → IsBounded (with_act w place a)
 move_bounded w place c a bounded m = record {
   limit = bounded.limit ∙ sym (ap (λ (s : Settings). s.journal_limit) m.settings);
-  room = m.room bounded.room;
+  numbered = m.numbered bounded.numbered;
   poised = poised_set w.clients place a.client bounded.poised (poised_if_settled (is_settled a.client) (is_last_word a.client) m.settled);
 }
 
 lower_by : (w : World) (place : ℕ) (c : Client) (a : Act) (b : Bool) → awaits_reply (need_of c) ≡ b → slice_get w.clients place ≡ Some c → c.is_over ≡ false → IsBounded w
     → IsMove (need_of c) (act_of w c) a → moves_left (with_act w place a) < moves_left w
 lower_by w place c a true is at alive bounded m =
-    let next = move_bounded w place c a bounded m in
-    let within : length a.daemon.past ≤ w.limit = subst (λ (n : ℕ). length a.daemon.past ≤ n) (sym next.limit) (within_limit a.daemon next.room) in
-    lower_by_entry w.limit (length w.daemon.past) (length a.daemon.past) (open_clients w.clients) (open_clients (slice_set w.clients place a.client)) (open_one a.client)
-    (m.one is) within (open_set w.clients place c a.client at alive) (at_most_one a.client.is_over)
+    lower_by_entry (places_of w.daemon) (places_of a.daemon) (length w.daemon.past) (length a.daemon.past) (open_clients w.clients) (open_clients (slice_set w.clients place a.client)) (open_one a.client)
+    (m.places bounded.numbered) (m.one is) (entries_within a.daemon) (open_set w.clients place c a.client at alive) (at_most_one a.client.is_over)
 lower_by w place c a false is at alive bounded m =
     let word : is_last_word c ≡ true = word_by c.is_over (awaits_reply (need_of c)) (is_last_word c) alive is (poised_at w.clients place c bounded.poised at) in
     let over : a.client.is_over ≡ true = m.last (both_first (is_saying (need_of c)) (is_end (need_of (asked c))) word) (both_second (is_saying (need_of c)) (is_end (need_of (asked c))) word) in
-    lower_by_end w.limit (length w.daemon.past) (length a.daemon.past) (open_clients w.clients) (open_clients (slice_set w.clients place a.client)) (open_one a.client)
-    (m.none is) (open_set w.clients place c a.client at alive) (none_if_over a.client.is_over over)
+    lower_by_end (places_of w.daemon) (places_of a.daemon) (length w.daemon.past) (length a.daemon.past) (open_clients w.clients) (open_clients (slice_set w.clients place a.client)) (open_one a.client)
+    (m.places bounded.numbered) (m.none is) (open_set w.clients place c a.client at alive) (none_if_over a.client.is_over over)
 
 client_lowers : (w : World) (place : ℕ) (o : Option Client) → slice_get w.clients place ≡ o → is_ready_at w.daemon.past o ≡ true → IsBounded w → Bounded (client_moved_by w place o) (IsLower w)
 client_lowers w place None at ready bounded = let clash : ⊥ = cc in absurd clash
@@ -188,18 +187,23 @@ one_less m k n f g = omega (arith, f, g)
 pub run_bounded : (n : ℕ) (w : World) (last : ℕ) → IsBounded w → moves_left w ≤ n → Bounded (run_on n w last) IsBounded
 run_bounded zero w last bounded few =
     spent w (is_ready_at w.daemon.past (slice_get w.clients (next_up w last)))
-    (none_ready w.daemon.past w.clients (next_up w last) (none_left (w.limit - length w.daemon.past) (open_clients w.clients) few)) bounded
+    (none_ready w.daemon.past w.clients (next_up w last) (none_left (places_of w.daemon - length w.daemon.past) (open_clients w.clients) few)) bounded
 run_bounded (suc n) w last bounded few =
     goes_on n w last (is_ready_at w.daemon.past (slice_get w.clients (next_up w last))) refl bounded
     (λ v low. run_bounded n v (next_up w last) low.bounded (one_less (moves_left v) (moves_left w) n low.lower few))
 
-enough : (limit n m k : ℕ) → m ≤ k → (limit - n) + m ≤ limit + k
-enough limit n m k h = omega (arith, h)
+enough : (limit most n m k : ℕ) → most ≤ limit + n + n → m ≤ k → (most - n) + m ≤ limit + n + n + k
+enough limit most n m k g h = omega (arith, g, h)
+
+places_limited : (w : World) → IsBounded w → places_of w.daemon ≤ w.limit + length w.daemon.past + length w.daemon.past
+places_limited w bounded =
+    subst (λ (n : ℕ). places_of w.daemon ≤ n + length w.daemon.past + length w.daemon.past) (sym bounded.limit) (places_few w.daemon)
 
 -- the bound is enough
 pub runs_bounded : (w : World) (last : ℕ) → IsBounded w → Bounded (run_from w last) IsBounded
 runs_bounded w last bounded =
-    run_bounded (most_moves w) w last bounded (enough w.limit (length w.daemon.past) (open_clients w.clients) (length w.clients) (open_at_most w.clients))
+    run_bounded (most_moves w) w last bounded 
+    (enough w.limit (places_of w.daemon) (length w.daemon.past) (open_clients w.clients) (length w.clients) (places_limited w bounded) (open_at_most w.clients))
 
 -- ---- a client that makes so many moves, and one that leaves
 
@@ -216,7 +220,7 @@ moves_bounded (suc count) w place bounded =
 
 -- a daemon after steps whose replies nobody waits for
 abbrev Kept : Daemon → Result Daemon ℕ → Type 0
-Kept d (Ok e) = (HasRoom d → HasRoom e) × (e.settings ≡ d.settings)
+Kept d (Ok e) = (AreNumbered d → AreNumbered e) × (e.settings ≡ d.settings)
 Kept d (Err n) = Unit {0}
 
 kept_then : (d : Daemon) (r : Result Daemon ℕ) (f : Daemon → Result Daemon ℕ) → Kept d r → ((e : Daemon) → Kept e (f e)) → Kept d (r >>= f)
@@ -225,14 +229,14 @@ kept_then d (Ok e) f h g = kept_on d e (f e) h (g e)
   where
     kept_on : (d e : Daemon) (r : Result Daemon ℕ) → Kept d (Ok e) → Kept e r → Kept d r
     kept_on d e (Err n) h k = tt
-    kept_on d e (Ok x) h k = (λ room. k.0 (h.0 room), k.1 ∙ h.1)
+    kept_on d e (Ok x) h k = (λ falls. k.0 (h.0 falls), k.1 ∙ h.1)
 
 abbrev step_by : Daemon → ℕ → Event → Bool → Result (Daemon × Given) ℕ
 step_by d now event full = if full then Err (full_count d) else Ok (after d now event, given d now event)
 
 happened_by : (d : Daemon) (now : ℕ) (event : Event) (full : Bool) → is_full d event ≡ full → Kept d (step_by d now event full >>= λ s. Ok s.0)
 happened_by d now event true is = tt
-happened_by d now event false is = (room_after d now event is, refl)
+happened_by d now event false is = (numbered_after d now event, refl)
 
 happened_kept : (d : Daemon) (now : ℕ) (event : Event) → Kept d (happened d now event)
 happened_kept d now event = happened_by d now event (is_full d event) refl
@@ -253,7 +257,7 @@ gone_bounded : (w : World) (place : ℕ) (c : Client) (r : Result Daemon ℕ) �
 gone_bounded w place c (Err n) h bounded = tt
 gone_bounded w place c (Ok d) h bounded = record {
   limit = bounded.limit ∙ sym (ap (λ (s : Settings). s.journal_limit) h.1);
-  room = h.0 bounded.room;
+  numbered = h.0 bounded.numbered;
   poised = poised_set w.clients place _ bounded.poised refl;
 }
 
@@ -274,9 +278,14 @@ event_by : (w : World) (r : Result Daemon ℕ) → Kept w.daemon r → IsBounded
 event_by w (Err n) h bounded = tt
 event_by w (Ok d) h bounded = record {
   limit = bounded.limit ∙ sym (ap (λ (s : Settings). s.journal_limit) h.1);
-  room = h.0 bounded.room;
+  numbered = h.0 bounded.numbered;
   poised = bounded.poised;
 }
 
 pub event_bounded : (w : World) (event : Event) → IsBounded w → Bounded (at_text w.printed (happened w.daemon w.site.moment event) >>= λ d. Ok (record w { daemon = d })) IsBounded
 event_bounded w event bounded = event_by w (happened w.daemon w.site.moment event) (happened_kept w.daemon w.site.moment event) bounded
+
+-- ---- a forget
+
+pub forgot_bounded : (w : World) → IsBounded w → IsBounded (forgot w)
+forgot_bounded w bounded = record { limit = bounded.limit; numbered = numbered_forgot w.daemon bounded.numbered; poised = bounded.poised }

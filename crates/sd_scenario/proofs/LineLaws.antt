@@ -17,7 +17,7 @@ use Rattle.sd_scenario.specs.Courses.{Course, LoginWords, LoggingIn, lookup, log
 use Rattle.sd_scenario.specs.Stops.{Halts}
 use Rattle.sd_scenario.specs.Tasks.{World, Halt, Full, Endless, MakesEvents, NoneIsReady, is_bounded, is_settled_at, most_moves, moves_at, run_from}
 use Rattle.sd_scenario.specs.Transcript.{Transcript, StepsAs, client_added, hold, lets_run, line_done, login_words, start, task_made, transcript, transcript_after, transcript_by, transcript_on}
-use Rattle.sd_scenario.proofs.BoundLaws.{IsBounded, is_poised, event_bounded, left_bounded, moves_bounded, poised_more, runs_bounded}
+use Rattle.sd_scenario.proofs.BoundLaws.{IsBounded, is_poised, event_bounded, forgot_bounded, left_bounded, moves_bounded, poised_more, runs_bounded}
 use Rattle.sd_scenario.proofs.MoveLaws.{Bounded, moves_made}
 use Rattle.sd_scenario.proofs.RestLaws.{Whole, run_rested, whole_is}
 
@@ -74,7 +74,7 @@ steps_if w v line r is = whole_or (StepsAs w line) r (line_done w line) v (line_
 begins_bounded : (w : World) (task : Course) → is_poised (begun task) ≡ true → IsBounded w → IsBounded (client_added w task)
 begins_bounded w task poised bounded = record {
   limit = bounded.limit;
-  room = bounded.room;
+  numbered = bounded.numbered;
   poised = poised_more w.clients (begun task) bounded.poised poised;
 }
 
@@ -93,6 +93,7 @@ line_bounded : (w : World) (line : Line) → IsBounded w → Bounded (line_done 
 line_bounded w (lines.Void what) h = event_bounded w (events.Void what) h
 line_bounded w lines.Offline h = event_bounded w events.Offline h
 line_bounded w lines.Online h = event_bounded w events.Online h
+line_bounded w lines.Forget h = forgot_bounded w h
 line_bounded w (lines.GetUser name) h = task_bounded w (lookup (keys.User name)) refl h
 line_bounded w (lines.GetUid uid) h = task_bounded w (lookup (keys.Uid uid)) refl h
 line_bounded w (lines.GetGroup name) h = task_bounded w (lookup (keys.Group name)) refl h
@@ -100,13 +101,13 @@ line_bounded w (lines.GetGid gid) h = task_bounded w (lookup (keys.Gid gid)) ref
 line_bounded w (lines.GroupsOf name) h = task_bounded w (lookup (keys.GroupsOf name)) refl h
 line_bounded w (lines.Login user password) h = task_bounded w (login (login_words w user password)) (login_poised (login_words w user password) password) h
 line_bounded w (lines.Access user service) h = task_bounded w (check (record { user = user; service = service; mode = w.site.config.settings.access })) refl h
-line_bounded w lines.Go h = runs_bounded (hold w false) 0 (record { limit = h.limit; room = h.room; poised = h.poised })
+line_bounded w lines.Go h = runs_bounded (hold w false) 0 (record { limit = h.limit; numbered = h.numbered; poised = h.poised })
 line_bounded w (lines.Step task count) h = moves_bounded count w (task - 1) h
 line_bounded w (lines.Abandon task) h = left_bounded w (task - 1) h
-line_bounded w _ h = record { limit = h.limit; room = h.room; poised = h.poised }
+line_bounded w _ h = record { limit = h.limit; numbered = h.numbered; poised = h.poised }
 
 start_bounded : (c : Config) → IsBounded (start c)
-start_bounded c = record { limit = refl; room = record { numbers = refl; places = omega arith }; poised = tt }
+start_bounded c = record { limit = refl; numbered = refl; poised = tt }
 
 after_bounded : (r : Result World Halt) (f : World → Transcript) → Bounded r IsBounded → ((v : World) → IsBounded v → (f v).is_endless ≡ false) → (transcript_after r f).is_endless ≡ false
 after_bounded (Ok v) f h g = g v h

@@ -9,7 +9,7 @@ use Rattle.sd_rules.specs.Steps.{after, full_count, given, is_full}
 use Rattle.sd_scenario.specs.Clients.{Client, about, asked, is_end, is_settled, need_of, replied}
 use Rattle.sd_scenario.specs.Tasks.{Site, World, Act, Halt, Full, Endless, MakesEvents, ◌>>=◌, act, act_of, acted_by, asked_act, at_text, client_moved, client_moved_at, client_moved_by, is_ready, is_ready_at, is_settled_at, moved, moves_at, replied_act, settled_act, settled_by, with_act}
 use Rattle.sd_scenario.proofs.RestLaws.{Whole}
-use Rattle.sd_scenario.proofs.RoomLaws.{HasRoom, room_after}
+use Rattle.sd_scenario.proofs.RoomLaws.{AreNumbered, numbered_after, places_after, places_of}
 use Rattle.sd_scenario.proofs.SettledLaws.{twice_settled, over_twice}
 
 -- what was done is not ended by the bound on the moves, and this is said of the world where it came to its end
@@ -39,7 +39,8 @@ clash_at b f g = cc
 
 -- What a move by a need makes: an entry where the need makes an event, and else none. Where the last is told, the client ends.
 pub record IsMove (n : Need) (a b : Act) : Type 0 where
-  pub room : HasRoom a.daemon → HasRoom b.daemon
+  pub numbered : AreNumbered a.daemon → AreNumbered b.daemon
+  pub places : AreNumbered a.daemon → places_of b.daemon ≤ places_of a.daemon
   pub settings : b.daemon.settings ≡ a.daemon.settings
   pub settled : is_settled b.client ≡ true
   pub one : awaits_reply n ≡ true → length b.daemon.past ≡ length a.daemon.past + 1
@@ -55,7 +56,8 @@ event_moved : (s : Site) (number : ℕ) (a : Act) (event : Event) (n : Need) (fu
     → Bounded (by_event s number a event full) (IsMove n a)
 event_moved s number a event n true is awaits says = tt
 event_moved s number a event n false is awaits says = record {
-  room = room_after a.daemon s.moment event is;
+  numbered = numbered_after a.daemon s.moment event;
+  places = places_after a.daemon s.moment event is;
   settings = refl;
   settled = twice_settled s number (replied (asked a.client) (about event) (given a.daemon s.moment event)) a.printed;
   one = λ _. omega arith;
@@ -69,7 +71,8 @@ without_event s number a n = settled_act s number (act a.daemon (settled_by s nu
 settled_moved : (s : Site) (number : ℕ) (a : Act) (n : Need) → awaits_reply n ≡ false
     → (is_saying n ≡ true → is_end (need_of (asked a.client)) ≡ true → (without_event s number a n).client.is_over ≡ true) → IsMove n a (without_event s number a n)
 settled_moved s number a n awaits last = record {
-  room = λ h. h;
+  numbered = λ h. h;
+  places = λ _. omega arith;
   settings = refl;
   settled = twice_settled s number (settled_by s number (asked a.client, a.printed) n).0 (settled_by s number (asked a.client, a.printed) n).1;
   one = λ h. absurd (clash_at (awaits_reply n) h awaits);

@@ -1,9 +1,8 @@
--- What the clients of a scenario have in the journal: each request that a task leads, and each ticket that it waits with, was
--- asked for the key that the task names it for.
-use Rattle.std.specs.Prelude.{◌≡◌, ℕ, List, [], ◌∷◌, Some}
+-- What the clients of a scenario have in the journal: each request that a task leads, as long as it is open, and each ticket, as
+-- long as it waits, was asked for the key that the task names it for.
+use Rattle.std.specs.Prelude.{◌≡◌, ◌<◌, ℕ, true, List, [], ◌∷◌, Some}
 use Rattle.sd_rules.specs.declared.keys.Key.{Key}
 use Rattle.sd_rules.specs.declared.keys.Key.TheVariants as keys
-use Rattle.sd_rules.specs.declared.replies.Entry.{Entry}
 use Rattle.sd_rules.specs.declared.scripts.Led.{Led}
 use Rattle.sd_rules.specs.declared.scripts.LookupCourse.{LookupCourse}
 use Rattle.sd_rules.specs.declared.scripts.LookupCourse.TheVariants.{Looking, Saying, SayingFirst, Renewing, Over}
@@ -16,6 +15,8 @@ use Rattle.sd_rules.specs.Closings.{Closing}
 use Rattle.sd_rules.specs.LoginScript as logins
 use Rattle.sd_rules.specs.LoginScript.{LoginCourse}
 use Rattle.sd_rules.specs.Past.{key_of}
+use Rattle.sd_rules.specs.Requests.{is_open, waits_for}
+use Rattle.sd_rules.specs.Steps.{Daemon, next_number}
 use Rattle.sd_scenario.specs.Clients.{Client}
 use Rattle.sd_scenario.specs.Courses.{Course, LookingUp, LoggingIn, Checking}
 
@@ -61,23 +62,29 @@ names (LookingUp key course) = lookup_names key course
 names (LoggingIn words course) = login_names words.user course
 names (Checking words course) = access_names course
 
--- each was asked for by the entry of its number
-abbrev pub AreAsked : List Entry → List Led → Type 0
-AreAsked past [] = Unit {0}
-AreAsked past (l ∷ led) = (key_of past l.request ≡ Some l.key) × AreAsked past led
+-- A number was given to an entry, which asked for the key, as long as what it opened is open or its ticket waits. Afterwards a
+-- forget may drop the entry.
+pub record IsAsked (d : Daemon) (n : ℕ) (key : Key) : Type 0 where
+  pub below : n < next_number d
+  pub request : is_open d.past n ≡ true → key_of d.past n ≡ Some key
+  pub ticket : (r : ℕ) → waits_for d.past n ≡ Some r → key_of d.past n ≡ Some key
+
+abbrev pub AreAsked : Daemon → List Led → Type 0
+AreAsked d [] = Unit {0}
+AreAsked d (l ∷ led) = IsAsked d l.request l.key × AreAsked d led
 
 -- the journal knows what a task names
-pub record IsKnown (past : List Entry) (task : Course) : Type 0 where
-  pub asked : AreAsked past (names task)
+pub record IsKnown (d : Daemon) (task : Course) : Type 0 where
+  pub asked : AreAsked d (names task)
 
-abbrev pub EachKnown : List Entry → List Client → Type 0
-EachKnown past [] = Unit {0}
-EachKnown past (c ∷ clients) = IsKnown past c.task × EachKnown past clients
+abbrev pub EachKnown : Daemon → List Client → Type 0
+EachKnown d [] = Unit {0}
+EachKnown d (c ∷ clients) = IsKnown d c.task × EachKnown d clients
 
 -- so it knows the task of each client
-pub record AreKnown (past : List Entry) (clients : List Client) : Type 0 where
-  pub each : EachKnown past clients
+pub record AreKnown (d : Daemon) (clients : List Client) : Type 0 where
+  pub each : EachKnown d clients
 
--- a later journal: what was asked for stays so
-pub record KeepsKeys (before after : List Entry) : Type 0 where
-  pub keeps : (n : ℕ) (key : Key) → key_of before n ≡ Some key → key_of after n ≡ Some key
+-- a later daemon: what was asked for stays so
+pub record KeepsKeys (before after : Daemon) : Type 0 where
+  pub keeps : (n : ℕ) (key : Key) → IsAsked before n key → IsAsked after n key

@@ -197,8 +197,8 @@ next_up w last =
     if is_ready_at w.daemon.past (slice_get w.clients last) then last else first_ready w.daemon.past w.clients
 
 -- A task runs until it ends or waits for an open request, and then the least-numbered that can, until none can. Each move makes an
--- entry or ends its client, and the journal has places for no more than its limit: so a task that could go on once the bound on the
--- moves is used up would be an error, which never comes.
+-- entry or ends its client, and the journal has places for no more than its limit, or for what is kept and reserved, where that is
+-- more: so a task that could go on once the bound on the moves is used up would be an error, which never comes.
 abbrev pub run_on : ℕ → World → ℕ → Result World Halt
 run_on zero w last =
     if is_ready_at w.daemon.past (slice_get w.clients (next_up w last)) then Err (Endless w.printed) else Ok w
@@ -208,7 +208,7 @@ run_on (suc moves) w last =
     else Ok w
 
 abbrev pub most_moves : World → ℕ
-most_moves w = w.limit + length w.clients
+most_moves w = w.limit + length w.daemon.past + length w.daemon.past + length w.clients
 
 abbrev pub run_from : World → ℕ → Result World Halt
 run_from w last = run_on (most_moves w) w last

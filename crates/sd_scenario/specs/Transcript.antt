@@ -3,6 +3,7 @@ use Rattle.std.specs.Prelude.{◌≡◌, ℕ, Bool, true, false, not, ◌&&◌, 
 use Rattle.sd_rules.specs.declared.keys.Key.TheVariants as keys
 use Rattle.sd_rules.specs.declared.events.Event.{Event}
 use Rattle.sd_rules.specs.declared.events.Event.TheVariants as events
+use Rattle.sd_rules.specs.Reaching.{after_forget}
 use Rattle.sd_conf.specs.declared.config.Config.{Config}
 use Rattle.sd_lines.specs.declared.lines.Line.{Line}
 use Rattle.sd_lines.specs.declared.lines.Line.TheVariants as lines
@@ -66,6 +67,10 @@ hold w is_held = record w { is_held = is_held }
 abbrev pub journal_printed : World → World
 journal_printed w = record w { printed = w.printed ++ journal_text (reverse w.daemon.past) }
 
+-- the daemon forgets the entries that no later event can look at
+abbrev pub forgot : World → World
+forgot w = record w { daemon = after_forget w.daemon }
+
 -- a line about the tasks that are held; tasks are numbered from 1
 abbrev pub held_line_done : World → Line → Result World Halt
 held_line_done w lines.Hold = Ok (hold w true)
@@ -106,11 +111,12 @@ task_line_done w (lines.Login user password) = task_made w (login (login_words w
 task_line_done w (lines.Access user service) = task_made w (check (record { user = user; service = service; mode = w.site.config.settings.access }))
 task_line_done w _ = Ok w
 
--- what a line does: the operator's word, a task that is made, tasks that are held, or the directory
+-- what a line does: the operator's word, a forget, a task that is made, tasks that are held, or the directory
 abbrev pub line_done : World → Line → Result World Halt
 line_done w (lines.Void what) = event_happened w (events.Void what)
 line_done w lines.Offline = event_happened w events.Offline
 line_done w lines.Online = event_happened w events.Online
+line_done w lines.Forget = Ok (forgot w)
 line_done w lines.Journal = Ok (journal_printed w)
 line_done w (lines.GetUser name) = task_line_done w (lines.GetUser name)
 line_done w (lines.GetUid uid) = task_line_done w (lines.GetUid uid)

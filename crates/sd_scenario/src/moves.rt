@@ -61,7 +61,7 @@ pub fn step(core: &mut Core, now: u64, event: Event) -> Result<Given, Stop>
     ensures made { OnOk result (core.new ≡ steps.after core.old now event) }
     ensures given { IfOk result (λ given. given ≡ steps.given core.old now event) }
     ensures fits { IfOk result (λ given. found_fits core.old.past event given.found ≡ true) }
-    ensures keys { KeepsKeys core.old.past core.new.past }
+    ensures keys { KeepsKeys core.old core.new }
 {
     match core.step(now, event) {
         Ok(given) => Ok(given),
@@ -75,7 +75,7 @@ pub fn step(core: &mut Core, now: u64, event: Event) -> Result<Given, Stop>
 /// One step of the core, whose reply nobody waits for.
 pub fn happen(core: &mut Core, now: u64, event: Event) -> Result<(), Stop>
     requires { steps.is_steppable core.old.past event ≡ true }
-    ensures keys { KeepsKeys core.old.past core.new.past }
+    ensures keys { KeepsKeys core.old core.new }
     ensures done { MatchResult result (λ _. tasks.happened core.old now event ≡ Ok core.new) (λ stop. Fails stop (tasks.happened core.old now event)) }
 {
     step(core, now, event)?;
@@ -198,7 +198,7 @@ fn settle_by(
 ) -> Result<(), Memory>
     requires stays { is_saying need ≡ false → clients.need_of client.old ≡ need }
     ensures done { OnOk result (tasks.settled_by site.now number (client.old, out.old.items) need ≡ (client.new, out.new.items)) }
-    ensures known { (past : List Entry) → IsKnown past client.old.task → IsKnown past client.new.task }
+    ensures known { (d : steps.Daemon) → IsKnown d client.old.task → IsKnown d client.new.task }
 {
     match need {
         Need::Fetch(server, key) => {
@@ -226,7 +226,7 @@ fn settle(
     out: &mut Vec<u8>,
 ) -> Result<(), Memory>
     ensures done { OnOk result (tasks.settled site.now number (client.old, out.old.items) ≡ (client.new, out.new.items)) }
-    ensures known { (past : List Entry) → IsKnown past client.old.task → IsKnown past client.new.task }
+    ensures known { (d : steps.Daemon) → IsKnown d client.old.task → IsKnown d client.new.task }
 {
     let need = client.need()?;
     settle_by(alloc, site, number, client, out, need)
@@ -236,12 +236,12 @@ fn settle(
 fn step_of(core: &mut Core, now: u64, client: &Client, event: Event) -> Result<Given, Stop>
     requires event { courses.event_of (clients.need_of client.now) ≡ Some event }
     requires kind { is_need_of_kind (key_at (courses.script_of client.now.task)) (clients.need_of client.now) ≡ true }
-    requires known { IsKnown core.old.past client.now.task }
+    requires known { IsKnown core.old client.now.task }
     ensures done { MatchResult result (λ given. tasks.step core.old now event ≡ Ok (core.new, given)) (λ stop. Fails stop (tasks.step core.old now event)) }
     ensures found { IfOk result (λ given. fits_found (key_at (courses.script_of client.now.task)) given.found ≡ true) }
-    ensures known { IfOk result (λ given. IsKnown core.new.past (courses.replied client.now.task given)) }
-    ensures still { IsKnown core.new.past client.now.task }
-    ensures keys { KeepsKeys core.old.past core.new.past }
+    ensures known { IfOk result (λ given. IsKnown core.new (courses.replied client.now.task given)) }
+    ensures still { IsKnown core.new client.now.task }
+    ensures keys { KeepsKeys core.old core.new }
 {
     step(core, now, event)
 }
@@ -257,9 +257,9 @@ fn step_for(
 ) -> Result<(), Stop>
     requires event { courses.event_of (clients.need_of client.old) ≡ Some event }
     requires kind { is_need_of_kind (key_at (courses.script_of client.old.task)) (clients.need_of client.old) ≡ true }
-    requires known { IsKnown core.old.past client.old.task }
-    ensures known { IsKnown core.new.past client.new.task }
-    ensures keys { KeepsKeys core.old.past core.new.past }
+    requires known { IsKnown core.old client.old.task }
+    ensures known { IsKnown core.new client.new.task }
+    ensures keys { KeepsKeys core.old core.new }
     ensures done { let done = tasks.stepped site.now (tasks.act core.old client.old out.now.items) event in MatchResult result
         (λ _. done ≡ Ok (tasks.act core.new client.new out.now.items))
         (λ stop. Halts stop done out.now.items) }
@@ -283,9 +283,9 @@ fn act(
 ) -> Result<(), Stop>
     requires stays { is_saying need ≡ false → clients.need_of client.old ≡ need }
     requires kind { is_saying need ≡ false → is_need_of_kind (key_at (courses.script_of client.old.task)) need ≡ true }
-    requires known { IsKnown core.old.past client.old.task }
-    ensures known { IsKnown core.new.past client.new.task }
-    ensures keys { KeepsKeys core.old.past core.new.past }
+    requires known { IsKnown core.old client.old.task }
+    ensures known { IsKnown core.new client.new.task }
+    ensures keys { KeepsKeys core.old core.new }
     ensures done { let done = tasks.acted_by site.now number (tasks.act core.old client.old out.old.items) need in MatchResult result
         (λ _. done ≡ Ok (tasks.act core.new client.new out.new.items))
         (λ stop. Halts stop done out.new.items) }
@@ -310,7 +310,7 @@ fn settle_twice(
 ) -> Result<(), Memory>
     ensures done { OnOk result (tasks.settled site.now number (tasks.settled site.now number (client.old, out.old.items)) ≡ (client.new, out.new.items)) }
     ensures settled { OnOk result (clients.is_settled client.new ≡ true) }
-    ensures known { (past : List Entry) → IsKnown past client.old.task → IsKnown past client.new.task }
+    ensures known { (d : steps.Daemon) → IsKnown d client.old.task → IsKnown d client.new.task }
 {
     settle(alloc, site, number, client, out)?;
     settle(alloc, site, number, client, out)
@@ -326,10 +326,10 @@ pub fn make_move(
     client: &mut Client,
     out: &mut Vec<u8>,
 ) -> Result<(), Stop>
-    requires known { IsKnown core.old.past client.old.task }
-    ensures known { IsKnown core.new.past client.new.task }
+    requires known { IsKnown core.old client.old.task }
+    ensures known { IsKnown core.new client.new.task }
     ensures settled { OnOk result (clients.is_settled client.new ≡ true) }
-    ensures keys { KeepsKeys core.old.past core.new.past }
+    ensures keys { KeepsKeys core.old core.new }
     ensures done { let done = tasks.moved site.now number (tasks.act core.old client.old out.old.items) in MatchResult result
         (λ _. done ≡ Ok (tasks.act core.new client.new out.new.items))
         (λ stop. Halts stop done out.new.items) }
@@ -362,7 +362,7 @@ pub fn is_ready(core: &Core, client: &Client) -> bool
 #[tactic(auto, using(crate::proofs::KnownLaws::keeps_itself, crate::proofs::KnownLaws::keeps_through))]
 /// Makes an Abandon for each of these numbers, in order.
 fn abandon_all(core: &mut Core, now: u64, numbers: &[u64]) -> Result<(), Stop>
-    ensures keys { KeepsKeys core.old.past core.new.past }
+    ensures keys { KeepsKeys core.old core.new }
     ensures done { MatchResult result (λ _. tasks.abandoned numbers.now core.old now ≡ Ok core.new) (λ stop. Fails stop (tasks.abandoned numbers.now core.old now)) }
 {
     for number in numbers {
@@ -373,7 +373,7 @@ fn abandon_all(core: &mut Core, now: u64, numbers: &[u64]) -> Result<(), Stop>
 
 #[tactic(auto, using(crate::proofs::KnownLaws::keeps_itself))]
 fn leave_ticket(core: &mut Core, now: u64, ticket: Option<u64>) -> Result<(), Stop>
-    ensures keys { KeepsKeys core.old.past core.new.past }
+    ensures keys { KeepsKeys core.old core.new }
     ensures done { MatchResult result (λ _. tasks.ticket_left ticket core.old now ≡ Ok core.new) (λ stop. Fails stop (tasks.ticket_left ticket core.old now)) }
 {
     match ticket {
@@ -385,7 +385,7 @@ fn leave_ticket(core: &mut Core, now: u64, ticket: Option<u64>) -> Result<(), St
 #[tactic(auto, using(crate::proofs::KnownLaws::keeps_through))]
 /// Gives back what a client leads and waits for.
 fn give_back(core: &mut Core, now: u64, client: &Client) -> Result<(), Stop>
-    ensures keys { KeepsKeys core.old.past core.new.past }
+    ensures keys { KeepsKeys core.old core.new }
     ensures done { MatchResult result (λ _. tasks.left_by client.now core.old now ≡ Ok core.new) (λ stop. Fails stop (tasks.left_by client.now core.old now)) }
 {
     abandon_all(core, now, client.leads())?;
@@ -413,7 +413,7 @@ pub fn leave(
     out: &mut Vec<u8>,
 ) -> Result<(), Stop>
     ensures task { client.new.task ≡ client.old.task }
-    ensures keys { KeepsKeys core.old.past core.new.past }
+    ensures keys { KeepsKeys core.old core.new }
     ensures done { let done = tasks.left site.now number (tasks.act core.old client.old out.old.items) in MatchResult result
         (λ _. done ≡ Ok (tasks.act core.new client.new out.new.items))
         (λ stop. Halts stop done out.new.items) }

@@ -58,7 +58,7 @@ impl Model for World {
       printed = w.out.items;
     } };
 
-    ghost invariant = { λ w. AreKnown w.core.past w.clients.items };
+    ghost invariant = { λ w. AreKnown w.core w.clients.items };
 }
 
 /// Appends the lines of a journal.
@@ -198,6 +198,15 @@ impl World {
         first_ready(&self.core, self.clients.as_slice())
     }
 
+    /// More moves than the tasks that run can make.
+    fn most_moves(&self) -> u128
+        ensures { result ≡ tasks.most_moves self.now }
+    {
+        let entries = self.core.journal();
+        let clients = self.clients.as_slice();
+        u128::from(self.limit) + 2 * (entries.len() as u128) + clients.len() as u128
+    }
+
     /// Lets the tasks run, from the client in this place on, until none is ready.
     #[tactic(auto, using(crate::proofs::Counting::run_counted, crate::proofs::Counting::run_rests, crate::proofs::Counting::run_stopped, crate::proofs::Counting::run_spent))]
     fn run_from(&mut self, first: usize) -> Result<(), Stop>
@@ -206,7 +215,7 @@ impl World {
         ensures clients { length self.new.clients ≡ length self.old.clients }
     {
         let mut last = first;
-        let mut moves = self.limit as usize + self.clients.len();
+        let mut moves = self.most_moves();
         while moves > 0 {
             let next = self.next_up(last);
             if !self.is_ready_at(next) {
@@ -354,6 +363,15 @@ impl World {
         push_journal(self.alloc, &mut self.out, self.core.journal())
     }
 
+    /// Forgets what no later event can look at.
+    #[tactic(auto, using(crate::proofs::KnownLaws::forget_keeps, crate::proofs::KnownLaws::all_known_on))]
+    fn forget(&mut self) -> Result<(), Memory>
+        ensures { OnOk result (self.new ≡ script.forgot self.old) }
+    {
+        self.core.forget()?;
+        Ok(())
+    }
+
     /// An event happens, which any journal takes.
     fn void(&mut self, what: &What) -> Result<(), Stop>
         ensures done { let done = script.event_happened self.old (events.Void what.now) in MatchResult result (λ _. done ≡ Ok self.new) (λ stop. Halts stop done self.new.printed) }
@@ -438,6 +456,10 @@ impl World {
             Line::Void(what) => self.void(what),
             Line::Offline => self.happen(Event::Offline),
             Line::Online => self.happen(Event::Online),
+            Line::Forget => {
+                self.forget()?;
+                Ok(())
+            }
             Line::Journal => {
                 self.print_journal()?;
                 Ok(())

@@ -9,5 +9,5 @@ loop-number-preserved c = record {
   told = abandoned_next c.args.numbers.now (drop (c.loop-number.number-index + 1) c.args.numbers.now) _ (drop c.loop-number.number-index c.args.numbers.now)
       c.loop-number.core c.happen.new.core c.args.core.now c.args.now (drop_more c.args.numbers.now c.loop-number.number-index _ c.loop-number-test.true)
       c.in_ok-happen.ensures.done c.loop-number.invariant.told;
-  keys = keeps_through c.args.core.now.past c.loop-number.core.past c.happen.new.core.past c.loop-number.invariant.keys c.happen.ensures.keys;
+  keys = keeps_through c.args.core.now c.loop-number.core c.happen.new.core c.loop-number.invariant.keys c.happen.ensures.keys;
 }

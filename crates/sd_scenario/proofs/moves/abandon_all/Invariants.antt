@@ -7,5 +7,5 @@ use Rattle.sd_scenario.proofs.moves.abandon_all.Given as goal
 abbrev pub invariant-loop-number : goal.invariant-loop-number
 invariant-loop-number l = record {
   told : tasks.abandoned (drop l.number-index l.numbers) l.core l.now ≡ tasks.abandoned l.numbers l.fn.core l.now;
-  keys : KeepsKeys l.fn.core.past l.core.past;
+  keys : KeepsKeys l.fn.core l.core;
 }

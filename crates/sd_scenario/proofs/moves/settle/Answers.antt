@@ -5,5 +5,5 @@ use Rattle.sd_scenario.proofs.ReplyLaws.{told_known}
 use Rattle.sd_scenario.proofs.moves.settle.Goals as goal
 
 pub returns-clause-known : goal.returns-clause-known
-returns-clause-known c = λ past known.
-    c.settle_by.ensures.known past (subst (λ (d : Client). IsKnown past d.task) (sym c.in_ok-need.ensures.asked) (told_known past c.args.client.now.task known))
+returns-clause-known c = λ e known.
+    c.settle_by.ensures.known e (subst (λ (d : Client). IsKnown e d.task) (sym c.in_ok-need.ensures.asked) (told_known e c.args.client.now.task known))

@@ -3,7 +3,7 @@ use Rattle.sd_scenario.proofs.ReplyLaws.{known_steppable, found_if_made, known_i
 use Rattle.sd_scenario.proofs.moves.step_of.Goals as goal
 
 pub step-requires : goal.step-requires
-step-requires c = known_steppable c.args.core.now.past c.args.client.now.task c.args.event c.requires.event c.requires.kind c.requires.known
+step-requires c = known_steppable c.args.core.now c.args.client.now.task c.args.event c.requires.event c.requires.kind c.requires.known
 
 pub returns-clause-found : goal.returns-clause-found
 returns-clause-found c =
@@ -15,4 +15,4 @@ returns-clause-known c =
     c.requires.event c.step.ensures.keys c.requires.known
 
 pub returns-clause-still : goal.returns-clause-still
-returns-clause-still c = known_on c.args.core.now.past c.step.new.core.past c.args.client.now.task c.step.ensures.keys c.requires.known
+returns-clause-still c = known_on c.args.core.now c.step.new.core c.args.client.now.task c.step.ensures.keys c.requires.known
