@@ -1,0 +1,77 @@
+// Plays worked bytes: standard input has bytes in hexadecimal digits, standard output gets what they come to as elements of BER, as
+// messages of LDAP, at a directory, over links, and in hashes of passwords.
+//
+// BYTES are words of hexadecimal digits, two for each byte; a word `N*DIGITS` stands for its bytes N times.
+//   elements BYTES         the tag and the length of each element in front, and what is behind them
+//   integer BYTES          the number of an element with these contents
+//   element BYTES          the octets in front of these contents, as an element of the tag 4
+//   message BYTES          whether a message stands in front, and how many bytes it takes
+//   same BYTES             whether each of the messages that these are is written as it was read
+//   entries                the lines up to a dot alone are LDIF: the directory from here on has their entries; at first it has none
+//   answer BYTES           what the directory answers
+//   serve READ WRITE BYTES what is written over a link of this input, and how it ends; the READ-th read and the WRITE-th write fail
+//   link MODE PIECES       what comes over a link to a server of a mode when these pieces were sent; words are pieces here
+//   dialer DIALS CALLS SERVERS
+//                          what binds at the servers of these numbers come to, one behind the other, where the dials and the calls of
+//                          two lists of numbers, with commas between, fail: server 0 is up, 1 is down, there are no others
+//   search BYTES           what a search comes to over a link that gives these bytes and ends, and then one more
+//   again BYTES            the same over a link that gives these bytes again and again
+//   hash SALT WORD         the text of the hash of a password with a salt in digits
+//   salt SEED N            the salt of the attempt of this number, made of a seed in digits
+//   bind NAME WORD BYTES   what a bind comes to over a link that gives these bytes, and what was sent with the unbind behind it
+//
+// Each line is printed, and what it comes to behind it; empty lines, and those that begin with `#`, are only printed.
+#![tactic(auto)]
+
+mod canned;
+mod dialling;
+mod directories;
+mod elements;
+mod hashes;
+mod hex;
+mod links;
+mod messages;
+mod output;
+mod play;
+mod searches;
+
+use play::Play;
+use sd_base::{Memory, ReaderSource, WriterSink, read_all, write_all};
+use std::alloc::Global;
+use std::process::ExitCode;
+
+/// The longest input, in bytes.
+const LIMIT: usize = 1 << 20;
+
+/// What all lines print.
+fn play_all(alloc: Global, text: &[u8]) -> Result<Vec<u8>, Memory> {
+    let mut play = Play::new(alloc)?;
+    let mut left = text;
+    for _ in 0..text.len() {
+        if left.is_empty() {
+            break;
+        }
+        left = play.line(alloc, left)?;
+    }
+    Ok(play.printed())
+}
+
+fn run(rt: &HostRuntime) -> u8 {
+    let alloc = rt.alloc();
+    let mut source = ReaderSource::new(rt.stdin());
+    let mut sink = WriterSink::new(rt.stdout());
+    let Ok(text) = read_all(alloc, &mut source, LIMIT) else {
+        return 3;
+    };
+    let Ok(out) = play_all(alloc, text.as_slice()) else {
+        return 7;
+    };
+    match write_all(&mut sink, out.as_slice()) {
+        Ok(()) => 0,
+        Err(_) => 4,
+    }
+}
+
+fn main(rt: HostRuntime) -> ExitCode {
+    ExitCode::from(run(&rt))
+}

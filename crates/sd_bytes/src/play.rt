@@ -1,0 +1,90 @@
+// What each line does.
+use crate::dialling::print_dialled;
+use crate::directories::{directory_of, print_answer, print_served};
+use crate::elements::{print_elements, print_head, print_integer};
+use crate::hashes::{print_hash, print_salt};
+use crate::hex::{bytes_of, cut_word};
+use crate::links::print_link;
+use crate::messages::{print_message, print_same};
+use crate::output::print_line;
+use crate::searches::{print_bind, print_searched};
+use sd_base::Memory;
+use sd_pieces::cut;
+use sd_stub::Directory;
+use std::alloc::Global;
+
+/// The directory, and what was printed.
+#[derive(Drop)]
+pub struct Play {
+    directory: Directory,
+    out: Vec<u8>,
+}
+
+/// The lines in front of the first dot alone, and what comes behind it.
+fn cut_entries(text: &[u8]) -> (&[u8], &[u8]) {
+    let count = text.len();
+    for place in 0..count {
+        if text[place..].starts_with(b"\n.\n") {
+            return (&text[..place + 1], &text[count.min(place + 3)..]);
+        }
+    }
+    (text, b"")
+}
+
+impl Play {
+    pub fn new(alloc: Global) -> Result<Play, Memory> {
+        Ok(Play {
+            directory: Directory::new(alloc, Vec::new(alloc))?,
+            out: Vec::new(alloc),
+        })
+    }
+
+    pub fn printed(self) -> Vec<u8> {
+        let Play { directory: _, out } = self;
+        out
+    }
+
+    /// What bytes alone come to.
+    fn print_of(&mut self, alloc: Global, word: &[u8], words: &[u8]) -> Result<(), Memory> {
+        let bytes = bytes_of(alloc, words)?;
+        let bytes = bytes.as_slice();
+        match word {
+            b"elements" => print_elements(alloc, &mut self.out, bytes),
+            b"integer" => print_integer(alloc, &mut self.out, bytes),
+            b"element" => print_head(alloc, &mut self.out, bytes),
+            b"message" => print_message(alloc, &mut self.out, bytes),
+            b"same" => print_same(alloc, &mut self.out, bytes),
+            b"answer" => print_answer(alloc, &mut self.out, &self.directory, bytes),
+            _ => Ok(()),
+        }
+    }
+
+    fn word(&mut self, alloc: Global, word: &[u8], words: &[u8]) -> Result<(), Memory> {
+        match word {
+            b"serve" => print_served(alloc, &mut self.out, &self.directory, words),
+            b"link" => print_link(alloc, &mut self.out, &self.directory, words),
+            b"dialer" => print_dialled(alloc, &mut self.out, &self.directory, words),
+            b"search" => print_searched(alloc, &mut self.out, words, false),
+            b"again" => print_searched(alloc, &mut self.out, words, true),
+            b"hash" => print_hash(alloc, &mut self.out, words),
+            b"salt" => print_salt(alloc, &mut self.out, words),
+            b"bind" => print_bind(alloc, &mut self.out, words),
+            _ => self.print_of(alloc, word, words),
+        }
+    }
+
+    /// Carries out the first line, or the block that begins there, and gives what comes behind it.
+    pub fn line<'a>(&mut self, alloc: Global, text: &'a [u8]) -> Result<&'a [u8], Memory> {
+        let (line, rest) = cut(b'\n', text);
+        let rest = rest.unwrap_or(b"");
+        print_line(&mut self.out, line)?;
+        if line == b"entries".as_slice() {
+            let (entries, behind) = cut_entries(rest);
+            self.directory = directory_of(alloc, entries)?;
+            return Ok(behind);
+        }
+        let (word, words) = cut_word(line);
+        self.word(alloc, word, words)?;
+        Ok(rest)
+    }
+}
