@@ -2,16 +2,19 @@
 ghost use Rattle.std.specs.Prelude.{◌≤◌, ◌<◌, ◌^◌, length, IfOk, IfSome};
 
 use crate::events::event;
+use crate::forgetting::print_numbers;
 use crate::givens::print_given;
 use crate::kinds::is_steppable;
+use crate::marks::print_marks;
 use crate::output::{print, print_digits, print_line, print_number, print_word};
 use crate::replies::print_reply;
+use crate::restarted::print_restarted;
 use crate::rows::print_rows;
 use crate::words::Words;
 use sd_base::{Copied, Memory};
 use sd_core::{Core, OpenFault, PlainCore};
 use sd_restart::restart;
-use sd_rules::{Event, Given, Refused, Rows, Settings, StepFault};
+use sd_rules::{Event, Given, Refused, Row, Rows, Settings, StepFault};
 use std::alloc::Global;
 
 /// The two cores, which are to answer alike.
@@ -20,7 +23,12 @@ pub struct Cores {
     settings: Settings,
     core: Core,
     plain: PlainCore,
+    /// The rows of lines, with which the cores are opened next.
+    rows: Rows,
 }
+
+/// How many rows the cores may be opened with.
+const ROWS: usize = 1000;
 
 /// How many servers of each kind the settings may have.
 const SERVERS: u32 = 32;
@@ -99,11 +107,52 @@ impl Cores {
             settings,
             core,
             plain,
+            rows: Rows::new(alloc),
         })
     }
 
     pub fn open(alloc: Global, settings: Settings) -> Result<Cores, OpenFault> {
         Cores::open_with(alloc, settings, Rows::new(alloc))
+    }
+
+    /// Puts a row behind those with which the cores are opened next.
+    pub fn add_row(&mut self, row: Row) -> Result<(), Memory> {
+        self.rows.push(row)
+    }
+
+    /// Opens both cores with the rows of the lines before.
+    pub fn open_rows(&mut self, alloc: Global) -> Result<(), OpenFault> {
+        let rows = self.rows.copy()?;
+        self.rows = Rows::new(alloc);
+        if rows.len() < ROWS {
+            *self = Cores::open_with(alloc, self.settings.copy()?, rows)?;
+        }
+        Ok(())
+    }
+
+    /// Has both cores forget, and prints what stays and what is handed back.
+    pub fn print_forgotten(&mut self, out: &mut Vec<u8>) -> Result<(), Memory> {
+        let (back, plain) = (self.core.forget()?, self.plain.forget()?);
+        if back != plain || self.core.journal() != self.plain.journal() {
+            return print_line(out, b"the cores forget different entries");
+        }
+        print_numbers(out, b"stay", self.core.journal())?;
+        print_numbers(out, b"back", back.items())
+    }
+
+    /// Prints what the journal would be after a restart that keeps all that it can.
+    pub fn print_restarted(&self, alloc: Global, out: &mut Vec<u8>) -> Result<(), Memory> {
+        print_restarted(alloc, out, self.core.journal())
+    }
+
+    /// Prints what the marks of the journal say of a user.
+    pub fn print_marks(
+        &self,
+        alloc: Global,
+        words: &[u8],
+        out: &mut Vec<u8>,
+    ) -> Result<(), Memory> {
+        print_marks(alloc, out, &self.settings, self.core.journal(), words)
     }
 
     /// Prints the rows that both cores keep.

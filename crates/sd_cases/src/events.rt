@@ -5,6 +5,12 @@ use sd_base::{Memory, Text, Why};
 use sd_rules::{Event, Hash, Key, LoginResult, Refusal, What};
 use std::alloc::Global;
 
+/// The hash of each right password.
+pub const HASH: Hash = Hash {
+    salt: [7; 16],
+    digest: [9; 64],
+};
+
 fn short(word: &[u8]) -> u32 {
     value(word).min(1_000_000) as u32
 }
@@ -22,7 +28,8 @@ fn key_by_number(kind: &[u8], number: &[u8]) -> Key {
     }
 }
 
-fn key(alloc: Global, word: &[u8]) -> Result<Key, Memory> {
+/// The key that a word writes.
+pub fn key(alloc: Global, word: &[u8]) -> Result<Key, Memory> {
     let (kind, name) = cut(word, b':');
     if is(kind, b"user") {
         Ok(Key::User(Text::from_bytes(alloc, name)?))
@@ -75,10 +82,7 @@ fn refusal(words: &mut Words<'_>) -> Refusal {
 fn login_result(words: &mut Words<'_>) -> LoginResult {
     let kind = words.word();
     if is(kind, b"hashed") {
-        LoginResult::Right(Some(Hash {
-            salt: [7; 16],
-            digest: [9; 64],
-        }))
+        LoginResult::Right(Some(HASH))
     } else if is(kind, b"right") {
         LoginResult::Right(None)
     } else if is(kind, b"wrong") {
