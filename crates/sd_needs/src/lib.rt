@@ -11,6 +11,3 @@ pub mod tickets;
 pub mod voids;
 
 pub use needs::{forgotten, is_needed, needed};
-
-#[cfg(test)]
-mod tests;
