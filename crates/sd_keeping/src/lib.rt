@@ -13,6 +13,3 @@ pub use opening::{OpenJournal, opened, reopened};
 pub use readings::numbers_fit;
 pub use row_rules::bad_row;
 pub use rows::rows_of;
-
-#[cfg(test)]
-mod tests;
