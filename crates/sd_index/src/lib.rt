@@ -12,6 +12,3 @@ pub mod texts;
 pub mod voids;
 
 pub use index::Index;
-
-#[cfg(test)]
-mod tests;
