@@ -16,6 +16,3 @@ pub mod voids;
 pub mod whole;
 
 pub use sieve::{Sifted, sift};
-
-#[cfg(test)]
-mod tests;
