@@ -7,5 +7,3 @@ pub mod logins;
 pub mod past;
 pub mod requests;
 pub mod servers;
-#[cfg(test)]
-mod tests;
