@@ -6,6 +6,3 @@ pub mod rules;
 
 pub use lists::simple;
 pub use rules::allowed;
-
-#[cfg(test)]
-mod tests;
