@@ -13,6 +13,3 @@ pub use limits::Login;
 pub use marks::{Mark, Marks};
 pub use salts::Salts;
 pub use texts::{HashFault, hash_text, read_hash};
-
-#[cfg(test)]
-mod tests;
