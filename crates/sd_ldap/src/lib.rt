@@ -21,6 +21,3 @@ pub use fault::ReadFault;
 pub use filter::Filter;
 pub use message::{Message, Operation, SearchRequest};
 pub use result::LdapResult;
-
-#[cfg(test)]
-mod tests;
