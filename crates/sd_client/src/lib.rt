@@ -10,6 +10,3 @@ mod step;
 mod unbinding;
 
 pub use client::{Client, decides_once};
-
-#[cfg(test)]
-mod tests;
