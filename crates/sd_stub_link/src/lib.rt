@@ -12,6 +12,3 @@ pub use dialer::{StubDialer, StubServer};
 pub use line::StubLine;
 pub use link::StubLink;
 pub use sd_stub::Mode;
-
-#[cfg(test)]
-mod tests;
