@@ -11,6 +11,3 @@ pub use fault::BerFault;
 pub use header::{Header, read_header};
 pub use reader::{Reader, Tlv, integer, reads_back};
 pub use writing::write_tlv;
-
-#[cfg(test)]
-mod tests;
