@@ -8,6 +8,3 @@ pub mod searched;
 pub use dialer::Dialer;
 pub use directory::DirectoryLink;
 pub use searched::Searched;
-
-#[cfg(test)]
-mod tests;
