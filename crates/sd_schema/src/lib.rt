@@ -14,9 +14,6 @@ mod values;
 pub use access::{host, rule, service};
 pub use accounts::{group, user};
 
-#[cfg(test)]
-mod tests;
-
 /// Why an entry is no record that was asked for.
 #[derive(Debug, Drop)]
 pub enum Unfit {
