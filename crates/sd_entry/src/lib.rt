@@ -7,6 +7,3 @@ mod values;
 pub use sd_pieces::read_number;
 pub use users::fits_user;
 pub use values::{first_value, has_class};
-
-#[cfg(test)]
-mod tests;
