@@ -14,9 +14,6 @@ mod records;
 
 pub use reading::read_ldif;
 
-#[cfg(test)]
-mod tests;
-
 /// Why a text was not read. A line that others continue is told by its own number; numbers count from 1.
 #[derive(Clone, Copy, Debug, PartialEq, Eq)]
 pub enum LdifFault {
