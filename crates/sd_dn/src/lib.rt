@@ -8,8 +8,6 @@ use sd_base::{Copied, Items, Memory, Text};
 pub mod bytes;
 pub mod compare;
 pub mod read;
-#[cfg(test)]
-mod tests;
 pub mod texts;
 
 pub use compare::{Leaf, dn_equal, is_at_or_under, is_under, leaf_under};
