@@ -37,8 +37,3 @@ pub enum Mode {
     /// Each bind and search is answered by this code.
     Code(u32),
 }
-
-#[cfg(test)]
-mod serving_tests;
-#[cfg(test)]
-mod tests;
