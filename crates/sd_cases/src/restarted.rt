@@ -8,8 +8,11 @@ use std::alloc::Global;
 
 /// Prints the number and the moment of the next entry, and each entry's number and reply.
 pub fn print_restarted(alloc: Global, out: &mut Vec<u8>, entries: &[Entry]) -> Result<(), Memory> {
-    if !numbers_fit(1, entries) || !counts_fit(entries) {
-        return print_line(out, b"no rows");
+    if !counts_fit(entries) {
+        return print_line(out, b"the counts do not fit");
+    }
+    if !numbers_fit(1, entries) {
+        return print_line(out, b"the numbers do not fit");
     }
     let journal = reopened(alloc, 1, 0, entries)?;
     print(out, b"next")?;
