@@ -202,7 +202,7 @@ places_limited w bounded =
 -- the bound is enough
 pub runs_bounded : (w : World) (last : ℕ) → IsBounded w → Bounded (run_from w last) IsBounded
 runs_bounded w last bounded =
-    run_bounded (most_moves w) w last bounded 
+    run_bounded (most_moves w) w last bounded
     (enough w.limit (places_of w.daemon) (length w.daemon.past) (open_clients w.clients) (length w.clients) (places_limited w bounded) (open_at_most w.clients))
 
 -- ---- a client that makes so many moves, and one that leaves
