@@ -70,15 +70,18 @@ impl Cache {
             marked,
         };
         match answered {
-            Answered::Found(Record::User(user)) => {
-                let name = Key::User(user.name.copy()?);
-                put_found(&mut self.answers, newest, name, Key::Uid(user.uid))
-            }
-            Answered::Found(Record::Group(group)) => {
-                let name = Key::Group(group.name.copy()?);
-                put_found(&mut self.answers, newest, name, Key::Gid(group.gid))
-            }
-            _ => put_own(&mut self.answers, newest),
+            Answered::Found(found) => match found.value() {
+                Record::User(user) => {
+                    let name = Key::User(user.name.copy()?);
+                    put_found(&mut self.answers, newest, name, Key::Uid(user.uid))
+                }
+                Record::Group(group) => {
+                    let name = Key::Group(group.name.copy()?);
+                    put_found(&mut self.answers, newest, name, Key::Gid(group.gid))
+                }
+                _ => put_own(&mut self.answers, newest),
+            },
+            Answered::Absent => put_own(&mut self.answers, newest),
         }
     }
 
@@ -105,7 +108,7 @@ impl Cache {
 #[cfg(test)]
 mod tests {
     use super::*;
-    use sd_base::Text;
+    use sd_base::{Shared, Text};
     use sd_rules::User;
     use std::test::Fail;
 
@@ -114,7 +117,7 @@ mod tests {
     }
 
     fn alice(alloc: Global) -> Result<Answered, Memory> {
-        Ok(Answered::Found(Record::User(User {
+        let found = Record::User(User {
             dn: text(alloc, b"uid=alice,dc=example")?,
             name: text(alloc, b"alice")?,
             uid: 1000,
@@ -122,7 +125,8 @@ mod tests {
             gecos: text(alloc, b"")?,
             home: text(alloc, b"/home/alice")?,
             shell: text(alloc, b"/bin/sh")?,
-        })))
+        });
+        Ok(Answered::Found(Shared::new(alloc, found)?))
     }
 
     // A user who was asked by number is found by name, until the name is answered by itself.

@@ -68,6 +68,6 @@ pub fn found_of(answered: &Answered) -> Result<Found, Memory>
 {
     match answered {
         Answered::Absent => Ok(Found::Absent),
-        Answered::Found(found) => found_of_record(found),
+        Answered::Found(found) => found_of_record(found.value()),
     }
 }

@@ -353,12 +353,6 @@ say_if_forgotten (Ok x) old new marks kept unchanged same say =
 say_if_forgotten (Err x) old new marks kept unchanged same say =
     subst (λ (es : List Entry). SayOfUsers marks es) (sym unchanged) say
 
--- a forget shows the same logins
-pub logins_shown : (next : ℕ) (past : List Entry) → IsOrderly next past → SameLogins past (needed past)
-logins_shown next past orderly =
-    let kept = needed_kept next past orderly in
-    kept.logins
-
 -- a mark that counts no wrong guess may have any moment of the last
 uncounted : (past : List Entry) (user : List ℕ) (moment : ℕ) (m : Mark) → m.wrong_count ≡ 0 → SaysOf past user m → SaysOf past user (with_wrong moment 0 m)
 uncounted past user moment m none own = record {

@@ -25,14 +25,32 @@ fn group_names(alloc: Global, groups: &[GroupRef]) -> Result<Texts, Memory>
     Ok(names)
 }
 
+fn groups_in_record(alloc: Global, found: &Record) -> Result<Texts, Memory>
+    ensures { IfOk result (λ groups. groups ≡ access.groups_in_answer (Answered.Found found.now)) }
+{
+    match found {
+        Record::Groups(groups) => group_names(alloc, groups.groups.items()),
+        _ => Ok(Texts::new(alloc)),
+    }
+}
+
+fn host_groups_in_record(alloc: Global, found: &Record) -> Result<Texts, Memory>
+    ensures { IfOk result (λ groups. groups ≡ access.host_groups_in_answer (Answered.Found found.now)) }
+{
+    match found {
+        Record::Host(host) => host.groups.copy(),
+        _ => Ok(Texts::new(alloc)),
+    }
+}
+
 /// The groups of a user, by the answer to the question for them.
 fn groups_of_user(alloc: Global, answer: Option<Standing<'_>>) -> Result<Texts, Memory>
     ensures { IfOk result (λ groups. groups ≡ access.groups_of_user (option_map seen.standing answer.entry)) }
 {
     match answer {
         Some(a) => match a.answered {
-            Answered::Found(Record::Groups(groups)) => group_names(alloc, groups.groups.items()),
-            _ => Ok(Texts::new(alloc)),
+            Answered::Found(found) => groups_in_record(alloc, found.value()),
+            Answered::Absent => Ok(Texts::new(alloc)),
         },
         None => Ok(Texts::new(alloc)),
     }
@@ -44,8 +62,8 @@ fn groups_of_host(alloc: Global, answer: Option<Standing<'_>>) -> Result<Texts, 
 {
     match answer {
         Some(a) => match a.answered {
-            Answered::Found(Record::Host(host)) => host.groups.copy(),
-            _ => Ok(Texts::new(alloc)),
+            Answered::Found(found) => host_groups_in_record(alloc, found.value()),
+            Answered::Absent => Ok(Texts::new(alloc)),
         },
         None => Ok(Texts::new(alloc)),
     }

@@ -8,7 +8,7 @@ ghost use Rattle.sd_rules.specs.Requests as requests;
 ghost use Rattle.sd_rules.specs.Steps as steps;
 ghost use Rattle.sd_journal.specs.Seen as seen;
 ghost use Rattle.sd_keeping.specs.Counts as counts;
-ghost use Rattle.sd_forgetting.specs.Kept.{SameLogins};
+ghost use Rattle.sd_forgetting.specs.Kept.{IsKeptOf};
 ghost use Rattle.sd_index.specs.Entries.{numbers_fall};
 ghost use Rattle.sd_index.specs.Table.{takes_none};
 ghost use Rattle.sd_past.specs.Closing.{closes_place};
@@ -19,7 +19,7 @@ use sd_base::{Memory, Text};
 use sd_creds::Marks;
 use sd_journal::logins::{Login, cached_login, usable_hash, verdict_of, verdict_of_try};
 use sd_past::Past;
-use sd_rules::{Entry, Event, Journal, Reply, Settings, Verdict};
+use sd_rules::{Entry, Event, Reply, Settings, Verdict};
 use std::alloc::Global;
 
 /// What is kept of each user's logins beside the entries.
@@ -46,11 +46,11 @@ pub trait LoginBook: Drop {
         ensures closing { closes_place (P.entries past.old) entry.event ≡ true → IsOk result };
 
     /// Forgets the entries that no later event can look at, and hands them back, the oldest first. They take no login with them.
-    fn forget<P: Past>(&self, alloc: Global, past: &mut P) -> Result<Journal, Memory>
+    fn forget<P: Past>(&self, alloc: Global, past: &mut P) -> Result<Vec<Entry>, Memory>
         requires says { Says self.now (P.entries past.old) }
-        requires logins { SameLogins (P.entries past.old) (needed.needed (P.entries past.old)) }
+        requires shown { IsKeptOf (P.entries past.old) (needed.needed (P.entries past.old)) }
         ensures kept { OnOk result (P.entries past.new ≡ needed.needed (P.entries past.old)) }
-        ensures back { IfOk result (λ dropped. reverse dropped ≡ needed.forgotten (P.entries past.old)) }
+        ensures back { IfOk result (λ dropped. reverse dropped.items ≡ needed.forgotten (P.entries past.old)) }
         ensures unchanged { OnErr result (P.entries past.new ≡ P.entries past.old) }
         ensures says { Says self.now (P.entries past.new) };
 
@@ -115,7 +115,7 @@ impl LoginBook for NoBook {
         past.put(entry)
     }
 
-    fn forget<P: Past>(&self, alloc: Global, past: &mut P) -> Result<Journal, Memory> {
+    fn forget<P: Past>(&self, alloc: Global, past: &mut P) -> Result<Vec<Entry>, Memory> {
         past.forget(alloc)
     }
 
@@ -201,7 +201,7 @@ impl LoginBook for UserBook {
         Ok(())
     }
 
-    fn forget<P: Past>(&self, alloc: Global, past: &mut P) -> Result<Journal, Memory> {
+    fn forget<P: Past>(&self, alloc: Global, past: &mut P) -> Result<Vec<Entry>, Memory> {
         past.forget(alloc)
     }
 

@@ -395,6 +395,6 @@ impl<P: Past, R: Ruling, L: LoginBook> EntryCore<P, R, L> {
         let dropped = self.logins.forget(self.alloc, &mut self.past)?;
         self.text_bytes = of_entries(self.past.list());
         self.has_stopped = has_stopped(self.past.list());
-        Ok(dropped)
+        Ok(Journal::from(dropped))
     }
 }

@@ -1,17 +1,17 @@
 // What a step gives beside its reply: the record, the stored hash and the rule's name that the reply names.
-ghost use Rattle.std.specs.Prelude.{◌≡◌, true, reverse, None, IfOk, IsOk};
+ghost use Rattle.std.specs.Prelude.{◌≡◌, true, reverse, Some, None, IfOk, IsOk};
 ghost use Rattle.std.specs.Option.{option_copied};
 ghost use Rattle.sd_rules.specs.Steps as steps;
 ghost use Rattle.sd_index.specs.Entries.{falls};
 ghost use Rattle.sd_core.specs.Numbered as replies;
 
-use sd_base::{Copied, Memory, Text};
+use sd_base::{Copied, Memory, Shared, Text};
 use sd_index::entries::event_at;
 use sd_rules::{
     Answered, By, Entry, Event, Given, Hash, LoginResult, Outcome, Record, Reply, Row, Rule,
 };
 
-fn record_of(event: &Event) -> Option<&Record>
+fn record_of(event: &Event) -> Option<&Shared<Record>>
     ensures { option_copied result ≡ steps.record_of event.now }
 {
     match event {
@@ -21,7 +21,7 @@ fn record_of(event: &Event) -> Option<&Record>
     }
 }
 
-fn record_at(entries: &[Entry], number: u64) -> Option<&Record>
+fn record_at(entries: &[Entry], number: u64) -> Option<&Shared<Record>>
     requires { falls (reverse entries.now) ≡ true }
     ensures { option_copied result ≡ steps.record_in (steps.event_at (reverse entries.now) number) }
 {
@@ -50,7 +50,7 @@ fn answer_named(reply: Reply) -> Option<u64>
     }
 }
 
-fn record_named(entries: &[Entry], reply: Reply) -> Option<&Record>
+fn record_named(entries: &[Entry], reply: Reply) -> Option<&Shared<Record>>
     requires { falls (reverse entries.now) ≡ true }
     ensures { option_copied result ≡ steps.record_named (reverse entries.now) reply }
 {
@@ -108,12 +108,21 @@ fn name_of_rule(rule: Option<&Rule>) -> Option<&Text>
     }
 }
 
-fn rule_in(found: Option<&Record>, place: u32) -> Option<&Text>
+fn rule_of(found: &Record, place: u32) -> Option<&Text>
+    ensures { option_copied result ≡ steps.rule_in (Some found.now) place }
+{
+    match found {
+        Record::Rules(book) => name_of_rule(book.rules.get(place as usize)),
+        _ => None,
+    }
+}
+
+fn rule_in(found: Option<&Shared<Record>>, place: u32) -> Option<&Text>
     ensures { option_copied result ≡ steps.rule_in (option_copied found.entry) place }
 {
     match found {
-        Some(Record::Rules(book)) => name_of_rule(book.rules.get(place as usize)),
-        _ => None,
+        Some(found) => rule_of(found.value(), place),
+        None => None,
     }
 }
 

@@ -51,6 +51,18 @@ pub trait Ruling: Drop {
 #[derive(Drop)]
 pub struct Unkept;
 
+/// The reply by the record of an answer, where it is one of rules.
+#[tactic(auto, using(crate::proofs::Sizes::rules_within_bytes))]
+fn reply_by_record(number: u64, found: &Record, who: &Who<'_>) -> Reply
+    requires { bytes_of_answered (Answered.Found found.now) < 2 ^ 32 }
+    ensures { result ≡ access.reply_by_book (asked.asker who.now) number (Answered.Found found.now) }
+{
+    match found {
+        Record::Rules(book) => reply_by_rule(number, allowed(book, who)),
+        _ => Reply::Denied(NotBy::NoRule),
+    }
+}
+
 /// The reply by the answer that holds the rules.
 #[tactic(auto, using(crate::proofs::Sizes::rules_within_bytes))]
 fn reply_by_rules(who: &Who<'_>, answer: Option<Standing<'_>>) -> Reply
@@ -59,8 +71,8 @@ fn reply_by_rules(who: &Who<'_>, answer: Option<Standing<'_>>) -> Reply
 {
     match answer {
         Some(a) => match a.answered {
-            Answered::Found(Record::Rules(book)) => reply_by_rule(a.number, allowed(book, who)),
-            _ => Reply::Denied(NotBy::NoRule),
+            Answered::Found(found) => reply_by_record(a.number, found.value(), who),
+            Answered::Absent => Reply::Denied(NotBy::NoRule),
         },
         None => Reply::Denied(NotBy::NoRule),
     }
@@ -105,8 +117,11 @@ fn book_in(answered: &Answered) -> Option<&RuleBook>
     ensures { option_copied result ≡ ruled.book_in answered.now }
 {
     match answered {
-        Answered::Found(Record::Rules(book)) => Some(book),
-        _ => None,
+        Answered::Found(found) => match found.value() {
+            Record::Rules(book) => Some(book),
+            _ => None,
+        },
+        Answered::Absent => None,
     }
 }
 

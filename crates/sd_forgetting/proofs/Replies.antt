@@ -46,6 +46,9 @@ outage_by_last timeout t [] = refl
 outage_by_last timeout t (x ∷ xs) =
     word_if (records_outage x.event x.reply) (ends_outage x.event x.reply) timeout t x (outage_at timeout xs t) (last_word xs) refl (outage_by_last timeout t xs)
 
+pub outage_shown : (w p : List Entry) → IsKeptOf w p → (timeout t : ℕ) → outage_at timeout w t ≡ outage_at timeout p t
+outage_shown w p k timeout t = outage_by_last timeout t w ∙ (ap (outage_by timeout t) k.ends.word ∙ sym (outage_by_last timeout t p))
+
 -- the request open for a key, sought among what reserves a place
 among_reserving : (all : List Entry) (r : ℕ → Bool) → ((n : ℕ) → is_open_request all n ≡ true → r n ≡ true) → (k : Key) (xs : List Entry) →
     open_among all xs k ≡ open_among all (part (λ before (e : Entry). r e.number) xs) k
@@ -93,7 +96,7 @@ module _ (s : Settings) (w p : List Entry) (number t : ℕ) (k : IsKeptOf w p) w
       (h a refl)
 
   outage_same : outage_at s.offline_timeout w t ≡ outage_at s.offline_timeout p t
-  outage_same = outage_by_last s.offline_timeout t w ∙ (ap (outage_by s.offline_timeout t) k.ends.word ∙ sym (outage_by_last s.offline_timeout t p))
+  outage_same = outage_shown w p k s.offline_timeout t
 
   ask_same : (key : Key) → reply_to_ask s w number t key ≡ reply_to_ask s p number t key
   ask_same key =

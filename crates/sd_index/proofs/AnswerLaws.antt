@@ -1,5 +1,5 @@
 -- Which entries hold an answer, and that the cache stays the journal's.
-use Rattle.std.proofs.Common.{◌≡◌, ℕ, Bool, true, false, cond, List, [], ◌∷◌, Option, None, Some, refl, sym, ◌∙◌, ap}
+use Rattle.std.proofs.Common.{◌≡◌, ℕ, Bool, false, cond, List, Option, None, refl, sym, ◌∙◌, ap}
 use Rattle.sd_rules.specs.declared.keys.Key.{Key}
 use Rattle.sd_rules.specs.declared.keys.What.{What}
 use Rattle.sd_rules.specs.declared.records.Answered.{Answered}
@@ -8,8 +8,7 @@ use Rattle.sd_rules.specs.declared.events.Event.TheVariants.{Answer, Void, Kept}
 use Rattle.sd_rules.specs.declared.events.Row.{Row}
 use Rattle.sd_rules.specs.declared.events.Row.TheVariants as rows
 use Rattle.sd_rules.specs.declared.replies.Entry.{Entry}
-use Rattle.sd_rules.specs.Past.{Standing, is_closed, key_of, answer_under, answer_by, answer_in, voids}
-use Rattle.sd_cache.specs.Kept.{standing}
+use Rattle.sd_rules.specs.Past.{is_closed, key_of, answer_under, answer_by, answer_in, voids}
 
 -- an answer of the directory
 pub answer_closed : (past : List Entry) (e : Entry) (request : ℕ) (answered : Answered) (b : Bool) → e.event ≡ Answer request answered → is_closed e.reply ≡ b

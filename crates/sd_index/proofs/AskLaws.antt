@@ -1,5 +1,5 @@
 -- The reply by what is kept is the reply by the journal.
-use Rattle.std.proofs.Common.{◌≡◌, ℕ, ◌+◌, ◌-◌, ◌*◌, ◌/◌, max, nat_lt, nat_le, not, reverse, Bool, true, false, cond, ◌&&◌, ◌||◌, ◌==◌, List, Option, None, Some, refl, sym, ◌∙◌, ap}
+use Rattle.std.proofs.Common.{◌≡◌, ℕ, ◌-◌, ◌*◌, ◌/◌, max, nat_lt, nat_le, not, reverse, Bool, true, cond, ◌&&◌, ◌||◌, ◌==◌, List, Option, None, Some, refl, sym, ◌∙◌, ap}
 use Rattle.std.specs.Option.{option_map}
 use Rattle.sd_rules.specs.declared.keys.Key.{Key}
 use Rattle.sd_rules.specs.declared.records.Answered.{Answered}
@@ -14,14 +14,13 @@ use Rattle.sd_rules.specs.Requests.{open_for}
 use Rattle.sd_rules.specs.Answers as answers
 use Rattle.sd_cache.specs.declared.kept.Newest.{Newest}
 use Rattle.sd_cache.specs.Kept.{found_of, kept_of}
-use Rattle.sd_cache.specs.Cache.{newest_in}
 use Rattle.sd_index.specs.declared.places.Place.{Place}
 use Rattle.sd_index.specs.Bounds.{Bounds}
 use Rattle.sd_index.specs.Asked as asked
 use Rattle.sd_index.specs.Entries.{numbers_fall}
 use Rattle.sd_index.specs.Outages.{standing_at}
-use Rattle.sd_index.specs.Places.{reserved, running_in}
-use Rattle.sd_index.specs.Voids.{bound_of, last_void}
+use Rattle.sd_index.specs.Places.{running_in}
+use Rattle.sd_index.specs.Voids.{bound_of}
 use Rattle.sd_index.specs.Table.{Table, Indexes, reply_in}
 use Rattle.sd_index.proofs.FallLaws.{falls_from_some}
 use Rattle.sd_index.proofs.VoidLaws.{voided_by_number}

@@ -1,5 +1,5 @@
 -- As many places are reserved as the journal counts.
-use Rattle.std.proofs.Common.{◌≡◌, ℕ, ◌+◌, Bool, true, false, cond, ◌&&◌, ◌||◌, List, [], ◌∷◌, ◌++◌, filter, length, Option, None, Some, is_some, refl, sym, ◌∙◌, ap, arith, length-append, add_comm}
+use Rattle.std.proofs.Common.{◌≡◌, ℕ, ◌+◌, Bool, true, false, cond, ◌||◌, List, [], ◌∷◌, filter, length, Some, is_some, refl, sym, ◌∙◌, ap, length-append, add_comm}
 use Rattle.std.proofs.lemmas.List.Elements.{filter-append}
 use Rattle.sd_rules.specs.declared.keys.Key.{Key}
 use Rattle.sd_rules.specs.declared.events.Event.{Event}
@@ -10,7 +10,7 @@ use Rattle.sd_rules.specs.declared.replies.Reply.TheVariants.{Join, Lead, Refres
 use Rattle.sd_rules.specs.Requests.{is_lead, is_bind, opens_request, opens_attempt, is_open_request, is_open_attempt, joined, waits_for, reserves, reserved_among, reserved_places}
 use Rattle.sd_index.specs.declared.places.Place.{Place}
 use Rattle.sd_index.specs.declared.places.Place.TheVariants.{Request, Attempt, Ticket}
-use Rattle.sd_index.specs.Entries.{falls, numbers_fall, entry_at}
+use Rattle.sd_index.specs.Entries.{falls, numbers_fall}
 use Rattle.sd_index.specs.Places.{ticket_of, place_by, place_of, listed, taken, stands, reserved}
 use Rattle.sd_index.proofs.FallLaws.{falls_from_some}
 use Rattle.sd_index.proofs.FoundLaws.{AllFound, all_found, request_opened, attempt_opened, ticket_joined}
@@ -84,7 +84,7 @@ module _ (all : List Entry) (n : ℕ) where
   count_attempt r false is shut opens joins =
       count_ticket r shut (never (is_open_attempt all n) (λ o. sym is ∙ opens o)) joins
 
-  count_one : (event : Event) (r : Reply) → (is_open_request all n ≡ true → opens_request event r ≡ true) → (is_open_attempt all n ≡ true → opens_attempt event r ≡ true)
+  pub count_one : (event : Event) (r : Reply) → (is_open_request all n ≡ true → opens_request event r ≡ true) → (is_open_attempt all n ≡ true → opens_attempt event r ≡ true)
       → (is_some (waits_for all n) ≡ true → is_some (joined r) ≡ true) → length (filter (stands all) (listed (place_by n event r))) ≡ cond (reserves all n) 1 0
   count_one (Ask key) r opens begins joins = count_request key r (is_lead r) refl opens (never (is_open_attempt all n) begins) joins
   count_one (LoginOpen user) r opens begins joins = count_attempt r (is_bind r) refl (never (is_open_request all n) opens) begins joins

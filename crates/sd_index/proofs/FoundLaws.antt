@@ -1,5 +1,5 @@
 -- Each entry is the entry of its number; what is open or waits was opened by it, or joined.
-use Rattle.std.proofs.Common.{◌≡◌, ℕ, ◌<◌, ◌≤◌, Bool, true, false, cond, ◌==◌, List, [], ◌∷◌, Option, None, Some, is_some, refl, sym, ◌∙◌, ap, subst, arith}
+use Rattle.std.proofs.Common.{◌≡◌, ℕ, ◌<◌, Bool, true, false, cond, ◌==◌, List, [], ◌∷◌, Option, None, Some, is_some, sym, ◌∙◌, ap, arith}
 use Rattle.sd_rules.specs.declared.replies.Entry.{Entry}
 use Rattle.sd_rules.specs.Requests.{closes, ends_waiting, unclosed, opens_request, opens_attempt, has_opened_request, has_opened_attempt, is_open_request, is_open_attempt, joined, waits_for}
 use Rattle.sd_index.specs.Entries.{numbers_fall, entry_at}

@@ -1,5 +1,5 @@
 -- An entry is sought by halves.
-use Rattle.std.proofs.Common.{◌≡◌, ℕ, ◌<◌, ◌≤◌, Bool, true, false, cond, ◌&&◌, ◌==◌, nat_lt, List, [], ◌∷◌, ◌++◌, reverse, length, get_or, drop, take, add-zero, zero, suc, Option, None, Some, refl, sym, ◌∙◌, ap, subst, arith}
+use Rattle.std.proofs.Common.{◌≡◌, ℕ, ◌<◌, ◌≤◌, Bool, true, cond, ◌==◌, nat_lt, List, [], ◌∷◌, ◌++◌, reverse, length, get_or, drop, take, add-zero, zero, suc, Option, None, Some, refl, sym, ◌∙◌, ap, subst, arith}
 use Rattle.std.proofs.lemmas.List.{append_assoc, reverse-append, length-drop, get_or-drop, take-append-drop}
 use Rattle.sd_rules.specs.declared.replies.Entry.{Entry}
 use Rattle.sd_index.specs.Entries.{numbers_fall, falls, entry_at, Searches}

@@ -12,3 +12,4 @@ mod OpenLaws
 mod AskLaws
 mod SignalLaws
 pub mod TableLaws
+mod KeptLaws

@@ -2,17 +2,16 @@
 use Rattle.std.proofs.Common.{◌≡◌, ℕ, ◌<◌, ◌≤◌, Bool, true, false, cond, not, ◌&&◌, ◌||◌, ◌==◌, List, [], ◌∷◌, ◌++◌, filter, Option, None, Some, is_some, refl, sym, ◌∙◌, ap, arith}
 use Rattle.std.specs.List.{list_any}
 use Rattle.sd_rules.specs.declared.events.Event.{Event}
-use Rattle.sd_rules.specs.declared.events.Event.TheVariants.{Ask, LoginOpen, Abandon, Collect, Leave}
+use Rattle.sd_rules.specs.declared.events.Event.TheVariants.{Ask, LoginOpen, Collect, Leave}
 use Rattle.sd_rules.specs.declared.replies.Entry.{Entry}
 use Rattle.sd_rules.specs.declared.replies.Reply.{Reply}
 use Rattle.sd_rules.specs.declared.replies.Reply.TheVariants as replies
 use Rattle.sd_rules.specs.Past.{or_else}
-use Rattle.sd_rules.specs.Requests.{is_lead, is_bind, is_took, is_left, closes, ends_waiting, unclosed, opens_request, opens_attempt, has_opened_request, has_opened_attempt, is_open_request, is_open_attempt, joined, waits_for, outcome_of}
-use Rattle.sd_rules.specs.Steps as steps
+use Rattle.sd_rules.specs.Requests.{is_lead, is_bind, is_took, is_left, closes, ends_waiting, unclosed, opens_request, opens_attempt, has_opened_request, has_opened_attempt, is_open_request, is_open_attempt, joined, waits_for}
 use Rattle.sd_index.specs.declared.places.Place.{Place}
 use Rattle.sd_index.specs.declared.places.Place.TheVariants.{Request, Attempt, Ticket}
 use Rattle.sd_index.specs.Entries.{falls, numbers_fall}
-use Rattle.sd_index.specs.Places.{ticket_of, place_by, place_of, listed, reserved, gives_back, is_request_of, is_attempt_of, ticket_at, waits_in, taken_by, gives_back_in}
+use Rattle.sd_index.specs.Places.{ticket_of, place_by, place_of, listed, reserved, gives_back, is_request_of, is_attempt_of, ticket_at, waits_in}
 use Rattle.sd_index.proofs.FallLaws.{head_below, tail_falls, falls_from_some, not_same_below, is_same}
 use Rattle.sd_index.proofs.PlaceLaws.{and_true, and_false, reserved_after}
 
@@ -261,17 +260,6 @@ waits_of (e ∷ past) m t falls =
     ∙ waits_step w (e.number == t) (joined e.reply) (waits_for past t) (ended_joins e.event e.reply t)
     (λ b. let same : e.number ≡ t = is_same e.number t b in waits_none past e.number t rest (omega arith))
 
-collects : (past : List Entry) (request : ℕ) (b : Bool) → is_open_request past request ≡ b
-    → not b ≡ is_took (cond b (replies.NotYet request) (replies.Took (outcome_of past request)))
-collects past request true is = refl
-collects past request false is = refl
-
-collect_of : (past : List Entry) (o : Option ℕ) (is_opened : ℕ → Bool) → ((n : ℕ) → is_opened n ≡ is_open_request past n)
-    → taken_by is_opened o ≡ is_took (steps.reply_to_collect past o)
-collect_of past None is_opened same = refl
-collect_of past (Some request) is_opened same =
-    ap not (same request) ∙ collects past request (is_open_request past request) refl
-
 pub request_is : (past : List Entry) (n : ℕ) → falls past ≡ true → list_any (is_request_of n) (reserved past) ≡ is_open_request past n
 request_is past n h =
     let some : (m : ℕ) × (numbers_fall m past ≡ true) = falls_from_some past h in
@@ -286,18 +274,3 @@ pub waits_is : (past : List Entry) (t : ℕ) → falls past ≡ true → waits_i
 waits_is past t h =
     let some : (m : ℕ) × (numbers_fall m past ≡ true) = falls_from_some past h in
     waits_of past some.0 t some.1
-
--- so are the steps that give back a reserved place
-pub gives_back_is : (past : List Entry) (event : Event) → falls past ≡ true → gives_back_in (reserved past) event ≡ steps.gives_back past event
-gives_back_is past (Abandon n) h =
-    let some : (m : ℕ) × (numbers_fall m past ≡ true) = falls_from_some past h in
-    ap (λ (b : Bool). b || list_any (is_attempt_of n) (reserved past)) (requests_of past some.0 n some.1)
-    ∙ ap (λ (b : Bool). is_open_request past n || b) (attempts_of past some.0 n some.1)
-gives_back_is past (Leave ticket) h =
-    let some : (m : ℕ) × (numbers_fall m past ≡ true) = falls_from_some past h in
-    ap (λ (o : Option ℕ). is_some o) (waits_of past some.0 ticket some.1)
-gives_back_is past (Collect ticket) h =
-    let some : (m : ℕ) × (numbers_fall m past ≡ true) = falls_from_some past h in
-    ap (λ (o : Option ℕ). taken_by (λ n. list_any (is_request_of n) (reserved past)) o) (waits_of past some.0 ticket some.1)
-    ∙ collect_of past (waits_for past ticket) (λ n. list_any (is_request_of n) (reserved past)) (λ n. requests_of past some.0 n some.1)
-gives_back_is past _ h = refl

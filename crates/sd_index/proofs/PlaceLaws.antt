@@ -1,5 +1,5 @@
 -- The places that are reserved after an entry: those before it that it does not give back, and its own.
-use Rattle.std.proofs.Common.{◌≡◌, ℕ, ◌<◌, Bool, true, false, cond, not, ◌&&◌, ◌||◌, ◌==◌, List, [], ◌∷◌, ◌++◌, filter, Option, None, Some, is_some, refl, sym, ◌∙◌, ap, arith}
+use Rattle.std.proofs.Common.{◌≡◌, ℕ, ◌<◌, Bool, true, false, cond, not, ◌&&◌, ◌==◌, List, [], ◌∷◌, ◌++◌, filter, Option, None, Some, is_some, refl, sym, ◌∙◌, ap, arith}
 use Rattle.std.proofs.lemmas.List.Elements.{filter-append}
 use Rattle.sd_rules.specs.declared.keys.Key.{Key}
 use Rattle.sd_rules.specs.declared.events.Event.{Event}
@@ -7,7 +7,7 @@ use Rattle.sd_rules.specs.declared.events.Event.TheVariants.{Ask, LoginOpen, Col
 use Rattle.sd_rules.specs.declared.replies.Entry.{Entry}
 use Rattle.sd_rules.specs.declared.replies.Reply.{Reply}
 use Rattle.sd_rules.specs.declared.replies.Reply.TheVariants.{Join}
-use Rattle.sd_rules.specs.Requests.{is_lead, is_bind, closes, ends_waiting, unclosed, has_opened_request, has_opened_attempt, joined, waits_for, is_took, is_left}
+use Rattle.sd_rules.specs.Requests.{is_lead, is_bind, closes, ends_waiting, unclosed, has_opened_request, has_opened_attempt, joined, waits_for}
 use Rattle.sd_index.specs.declared.places.Place.{Place}
 use Rattle.sd_index.specs.declared.places.Place.TheVariants.{Request, Attempt, Ticket}
 use Rattle.sd_index.specs.Entries.{numbers_fall}

@@ -1,5 +1,5 @@
 -- The entries that tell of servers are all at which a pick looks.
-use Rattle.std.proofs.Common.{◌≡◌, ℕ, ◌+◌, Bool, true, false, cond, not, ◌&&◌, ◌||◌, ◌==◌, nat_lt, find, List, [], ◌∷◌, Option, None, Some, refl, sym, ◌∙◌, ap}
+use Rattle.std.proofs.Common.{◌≡◌, ℕ, ◌+◌, Bool, true, false, cond, not, ◌&&◌, ◌||◌, ◌==◌, nat_lt, find, List, [], ◌∷◌, Option, Some, refl, sym, ◌∙◌, ap}
 use Rattle.std.specs.List.{range_with_len}
 use Rattle.sd_rules.specs.declared.settings.Settings.{Settings}
 use Rattle.sd_rules.specs.declared.events.Event.{Event}
@@ -8,7 +8,7 @@ use Rattle.sd_rules.specs.declared.events.Row.{Row}
 use Rattle.sd_rules.specs.declared.events.Row.TheVariants as rows
 use Rattle.sd_rules.specs.declared.replies.Entry.{Entry}
 use Rattle.sd_rules.specs.declared.replies.Reply.{Reply}
-use Rattle.sd_rules.specs.Servers.{is_noted, falls_under, has_fallen_under, is_fall_of, is_online, has_fallen_lately, is_down, picked_server}
+use Rattle.sd_rules.specs.Servers.{falls_under, has_fallen_under, is_fall_of, is_online, has_fallen_lately, is_down, picked_server}
 use Rattle.sd_index.specs.Signals.{is_signal, tells_of_servers, signals}
 use Rattle.sd_index.proofs.PlaceLaws.{and_false}
 

@@ -1,9 +1,8 @@
 -- The places that are reserved.
-use Rattle.std.specs.Prelude.{ℕ, Bool, false, ◌||◌, ◌==◌, not, List, [], ◌∷◌, ◌++◌, filter, Option, Some, None, is_some, if◌then◌else◌}
-use Rattle.std.specs.List.{list_any}
+use Rattle.std.specs.Prelude.{ℕ, Bool, false, ◌==◌, List, [], ◌∷◌, ◌++◌, filter, Option, Some, None, is_some, if◌then◌else◌}
 use Rattle.sd_rules.specs.declared.keys.Key.{Key}
 use Rattle.sd_rules.specs.declared.events.Event.{Event}
-use Rattle.sd_rules.specs.declared.events.Event.TheVariants.{Ask, LoginOpen, Abandon, Collect, Leave}
+use Rattle.sd_rules.specs.declared.events.Event.TheVariants.{Ask, LoginOpen}
 use Rattle.sd_rules.specs.declared.replies.Entry.{Entry}
 use Rattle.sd_rules.specs.declared.replies.Reply.{Reply}
 use Rattle.sd_rules.specs.declared.replies.Reply.TheVariants.{Join}
@@ -77,15 +76,3 @@ ticket_at t _ = None
 abbrev pub waits_in : List Place → ℕ → Option ℕ
 waits_in [] t = None
 waits_in (place ∷ ps) t = or_else (ticket_at t place) (waits_in ps t)
-
--- there is an outcome to take, where a ticket's request runs no more
-abbrev pub taken_by : (ℕ → Bool) → Option ℕ → Bool
-taken_by runs None = false
-taken_by runs (Some request) = not (runs request)
-
--- an event gives back a place that is reserved
-abbrev pub gives_back_in : List Place → Event → Bool
-gives_back_in ps (Abandon n) = list_any (is_request_of n) ps || list_any (is_attempt_of n) ps
-gives_back_in ps (Leave ticket) = is_some (waits_in ps ticket)
-gives_back_in ps (Collect ticket) = taken_by (λ n. list_any (is_request_of n) ps) (waits_in ps ticket)
-gives_back_in ps _ = false

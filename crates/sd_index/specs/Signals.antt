@@ -1,5 +1,5 @@
 -- The entries that tell of servers.
-use Rattle.std.specs.Prelude.{Bool, true, false, filter, List, [], ◌∷◌, Option, Some, None, if◌then◌else◌}
+use Rattle.std.specs.Prelude.{Bool, true, false, filter, List, ◌∷◌, Option, Some, None, if◌then◌else◌}
 use Rattle.sd_rules.specs.declared.events.Event.{Event}
 use Rattle.sd_rules.specs.declared.events.Event.TheVariants.{Fall, Online, Kept}
 use Rattle.sd_rules.specs.declared.events.Row.TheVariants as rows

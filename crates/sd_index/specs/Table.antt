@@ -1,13 +1,11 @@
 -- What is kept beside a journal's list, and that it says what the journal says.
-use Rattle.std.specs.Prelude.{◌≡◌, ℕ, Bool, true, false, ◌&&◌, ◌||◌, ◌+◌, ◌-◌, ◌*◌, ◌^◌, min, nat_lt, not, reverse, length, is_none, List, [], Option, Some, None, if◌then◌else◌}
+use Rattle.std.specs.Prelude.{◌≡◌, ℕ, Bool, true, ◌&&◌, not, reverse, is_none, List, Option, if◌then◌else◌}
 use Rattle.sd_rules.specs.declared.keys.Key.{Key}
-use Rattle.sd_rules.specs.declared.events.Event.{Event}
 use Rattle.sd_rules.specs.declared.replies.Entry.{Entry}
 use Rattle.sd_rules.specs.declared.replies.Reply.{Reply}
 use Rattle.sd_rules.specs.declared.replies.Reply.TheVariants.{Filtered}
 use Rattle.sd_rules.specs.declared.settings.Settings.{Settings}
 use Rattle.sd_rules.specs.Answers.{is_filtered}
-use Rattle.sd_rules.specs.TextBytes.{text_bytes, bytes_of_event}
 use Rattle.sd_cache.specs.declared.kept.Newest.{Newest}
 use Rattle.sd_cache.specs.Cache.{newest_in, HoldsNewest}
 use Rattle.sd_index.specs.declared.outages.Outage.{Outage}
@@ -17,21 +15,20 @@ use Rattle.sd_index.specs.Bounds.{Bounds}
 use Rattle.sd_index.specs.Entries.{falls}
 use Rattle.sd_index.specs.Filed.{is_filed}
 use Rattle.sd_index.specs.Outages.{standing_at, HoldsOutage}
-use Rattle.sd_index.specs.Places.{place_of, reserved, running_in, gives_back_in}
+use Rattle.sd_index.specs.Places.{place_of, reserved, running_in}
 use Rattle.sd_index.specs.Signals.{tells_of_servers, signals}
 use Rattle.sd_index.specs.Voids.{HoldsVoids}
 
 -- the newest answers by keys, the last invalidations, the outage that nothing has ended, the places reserved, the entries that tell
--- of servers (the newest first), the bytes of text
+-- of servers (the newest first)
 pub record Table : Type 0 where
   pub answers : List (Key × Newest)
   pub bounds : Bounds
   pub outage : Option Outage
   pub places : List Place
   pub signals : List Entry
-  pub texts : ℕ
 
--- Each of them says what the journal says. A count of bytes stands still at the greatest u64.
+-- Each of them says what the journal says.
 pub record Indexes (past : List Entry) (t : Table) : Type 0 where
   pub numbers : falls past ≡ true
   pub answers : HoldsNewest past t.answers
@@ -39,7 +36,6 @@ pub record Indexes (past : List Entry) (t : Table) : Type 0 where
   pub outage : HoldsOutage past t.outage
   pub places : t.places ≡ reserved past
   pub signals : t.signals ≡ signals past
-  pub texts : t.texts ≡ min (text_bytes past) (2 ^ 64 - 1)
 
 -- the reply to a question
 abbrev pub reply_in : Table → Settings → ℕ → ℕ → Key → Reply
@@ -52,9 +48,13 @@ reply_in t s number moment k =
 abbrev pub takes_none : Entry → Bool
 takes_none e = not (is_filed e.event) && (not (tells_of_servers e) && is_none (place_of e))
 
--- there is no room for an event: the entries kept, the number of the next one, and how many entries a journal may have are told
-abbrev pub full_in : Table → ℕ → ℕ → ℕ → Event → Bool
-full_in t limit entries next event =
-    not (gives_back_in t.places event)
-    && (nat_lt limit (entries + length t.places + 2)
-    || (nat_lt (512 * 1024 * 1024) (min (t.texts + min (bytes_of_event event) (2 ^ 64 - 1)) (2 ^ 64 - 1)) || nat_lt (2 ^ 64 - 1) (next + length t.places + 2)))
+-- what is made anew when entries are forgotten
+pub record Remake : Type 0 where
+  pub bounds : Bounds
+  pub signals : List Entry
+
+-- it says what the entries say that are kept
+pub record Remakes (kept : List Entry) (r : Remake) : Type 0 where
+  pub numbers : falls kept ≡ true
+  pub bounds : HoldsVoids kept r.bounds
+  pub signals : r.signals ≡ signals kept

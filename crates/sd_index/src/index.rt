@@ -6,25 +6,19 @@ ghost use Rattle.sd_rules.specs.Answers as answers;
 ghost use Rattle.sd_rules.specs.Past as journal;
 ghost use Rattle.sd_rules.specs.Requests as requests;
 ghost use Rattle.sd_rules.specs.Servers as picks;
-ghost use Rattle.sd_rules.specs.Steps as steps;
-ghost use Rattle.sd_rules.specs.Steps.{Daemon};
-ghost use Rattle.sd_rules.specs.TextBytes as bytes;
 ghost use Rattle.sd_cache.specs.Cache.{HoldsNewest};
 ghost use Rattle.sd_cache.specs.Kept.{kept_of};
 ghost use Rattle.sd_index.specs.Asked as asked;
 ghost use Rattle.sd_index.specs.Entries.{falls, numbers_fall};
 ghost use Rattle.sd_index.specs.Filed.{is_filed};
-ghost use Rattle.sd_index.specs.Places.{gives_back_in};
 ghost use Rattle.sd_index.specs.Voids.{HoldsVoids};
 
 use crate::answers::put_answer;
 use crate::asked::{is_filtered, reply_by_newest};
 use crate::outages::{Outage, outage_after, standing_at};
-use crate::places::{
-    Place, frees, has_attempt, has_request, make_room, place_of, running, settle, waits,
-};
+use crate::places::{Place, has_attempt, has_request, make_room, place_of, running, settle, waits};
+use crate::remade::Remade;
 use crate::signals;
-use crate::texts::of_event;
 use crate::voids::Voids;
 use sd_base::Memory;
 use sd_cache::{Cache, Newest, Primed};
@@ -32,9 +26,6 @@ use sd_journal::servers;
 use sd_rules::{Entry, Event, Key, Reply, Settings};
 use std::alloc::Global;
 use std::marker::Model;
-
-/// How many text bytes the events of a journal may hold.
-const TEXT_LIMIT: u64 = 512 * 1024 * 1024;
 
 /// What is kept beside a journal, which contracts see as a table that says what the journal says.
 #[derive(Drop)]
@@ -46,7 +37,6 @@ pub struct Index {
     places: Vec<Place>,
     /// The entries that tell of servers, the oldest first.
     signals: Vec<Entry>,
-    text_bytes: u64,
 }
 
 impl Model for Index {
@@ -55,7 +45,7 @@ impl Model for Index {
 
     ghost Value = { Table };
 
-    ghost view = { λ i. record { answers = i.cache; bounds = i.voids; outage = i.outage; places = i.places.items; signals = reverse i.signals.items; texts = i.text_bytes } };
+    ghost view = { λ i. record { answers = i.cache; bounds = i.voids; outage = i.outage; places = i.places.items; signals = reverse i.signals.items } };
 }
 
 /// The number below which what is kept of an answer is voided.
@@ -84,7 +74,9 @@ fn file(cache: &mut Cache, voids: &mut Voids, before: &[Entry], entry: &Entry) -
 }
 
 impl Index {
-    ghost use Rattle.sd_index.specs.Table.{Indexes, reply_in, takes_none, full_in};
+    ghost use Rattle.sd_rules.specs.Needed.{needed};
+    ghost use Rattle.sd_forgetting.specs.Kept.{IsKeptOf};
+    ghost use Rattle.sd_index.specs.Table.{Indexes, Remakes, reply_in, takes_none};
 
     /// The index of a journal with no entries; keys and names are hashed so.
     #[tactic(auto, using(crate::proofs::TableLaws::indexes_none))]
@@ -97,7 +89,6 @@ impl Index {
             outage: None,
             places: Vec::new(alloc),
             signals: Vec::new(alloc),
-            text_bytes: 0,
         }
     }
 
@@ -117,7 +108,6 @@ impl Index {
         settle(&mut self.places, &entry.event, entry.reply, place);
         signals::note(&mut self.signals, entry);
         self.outage = outage_after(self.outage, entry);
-        self.text_bytes = self.text_bytes.saturating_add(of_event(&entry.event));
         Ok(())
     }
 
@@ -132,6 +122,22 @@ impl Index {
             index.append(&entries[..place], &entries[place])?;
         }
         Ok(index)
+    }
+
+    /// Puts what was made anew in the place of what there was.
+    fn put(&mut self, remade: Remade)
+        ensures { self.new ≡ record self.old { bounds = remade.bounds; signals = remade.signals } }
+    {
+        let (voids, signals) = remade.into_parts();
+        self.voids = voids;
+        self.signals = signals;
+    }
+
+    /// Turns the index of a journal into that of the entries which a forget keeps of it; what is made anew is theirs.
+    pub fn remake(&mut self, remade: Remade)
+        ensures { (whole : List Entry) → Indexes whole self.old → IsKeptOf whole (needed whole) → Remakes (needed whole) remade → Indexes (needed whole) self.new }
+    {
+        self.put(remade);
     }
 
     fn reply(&self, settings: &Settings, number: u64, moment: u64, key: &Key) -> Reply
@@ -166,13 +172,6 @@ impl Index {
         ensures { (past : List Entry) → Indexes past self.now → result ≡ journal.outage_at timeout past moment }
     {
         standing_at(self.outage, timeout, moment)
-    }
-
-    /// The request that is open for a key.
-    pub fn open_for(&self, key: &Key) -> Option<u64>
-        ensures { (past : List Entry) → Indexes past self.now → result ≡ requests.open_for past key.now }
-    {
-        running(self.places.as_slice(), key)
     }
 
     /// Whether a request of this number is open.
@@ -215,53 +214,5 @@ impl Index {
         ensures { (past : List Entry) → Indexes past self.now → result ≡ requests.reserved_places past }
     {
         self.count()
-    }
-
-    /// The bytes of text that the entries hold, where they are fewer than 2^64.
-    pub fn text_bytes(&self) -> u64
-        ensures { (past : List Entry) → Indexes past self.now → result ≡ min (bytes.text_bytes past) (2 ^ 64 - 1) }
-    {
-        self.text_bytes
-    }
-
-    fn frees(&self, event: &Event) -> bool
-        ensures { result ≡ gives_back_in self.now.places event.now }
-    {
-        frees(self.places.as_slice(), event)
-    }
-
-    fn lacks_places(&self, limit: u32, entries: usize) -> bool
-        ensures { result ≡ nat_lt limit (entries + length self.now.places + 2) }
-    {
-        u128::from(limit) < entries as u128 + self.count() as u128 + 2
-    }
-
-    fn lacks_text(&self, event: &Event) -> bool
-        ensures { result ≡ nat_lt (512 * 1024 * 1024) (min (self.now.texts + min (bytes.bytes_of_event event.now) (2 ^ 64 - 1)) (2 ^ 64 - 1)) }
-    {
-        TEXT_LIMIT < self.text_bytes.saturating_add(of_event(event))
-    }
-
-    fn lacks_numbers(&self, next: u64) -> bool
-        ensures { result ≡ nat_lt (2 ^ 64 - 1) (next + length self.now.places + 2) }
-    {
-        u128::from(u64::MAX) < u128::from(next) + self.count() as u128 + 2
-    }
-
-    fn lacks_room(&self, limit: u32, entries: usize, next: u64, event: &Event) -> bool
-        ensures { result ≡ full_in self.now limit entries next event.now }
-    {
-        !self.frees(event)
-            && (self.lacks_places(limit, entries)
-                || self.lacks_text(event)
-                || self.lacks_numbers(next))
-    }
-
-    /// Whether a journal of so many entries, which may have `limit` at most and whose next number is `next`, has no room for an
-    /// event.
-    pub fn is_full(&self, limit: u32, entries: usize, next: u64, event: &Event) -> bool
-        ensures { (d : Daemon) → Indexes d.past self.now → d.settings.journal_limit ≡ limit → length d.past ≡ entries → steps.next_number d ≡ next → result ≡ steps.is_full d event.now }
-    {
-        self.lacks_room(limit, entries, next, event)
     }
 }

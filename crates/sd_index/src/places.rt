@@ -189,24 +189,3 @@ pub fn waits(places: &[Place], ticket: u64) -> Option<u64>
     }
     None
 }
-
-fn is_taken(places: &[Place], request: Option<u64>) -> bool
-    ensures { result ≡ placed.taken_by (λ n. list_any (placed.is_request_of n) places.now) request }
-{
-    match request {
-        Some(request) => !has_request(places, request),
-        None => false,
-    }
-}
-
-/// Whether an event gives back a place that is reserved.
-pub fn frees(places: &[Place], event: &Event) -> bool
-    ensures { result ≡ placed.gives_back_in places.now event.now }
-{
-    match event {
-        Event::Abandon(number) => has_request(places, *number) || has_attempt(places, *number),
-        Event::Leave(ticket) => waits(places, *ticket).is_some(),
-        Event::Collect(ticket) => is_taken(places, waits(places, *ticket)),
-        _ => false,
-    }
-}

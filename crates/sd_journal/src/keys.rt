@@ -56,8 +56,11 @@ fn is_user_named(answered: &Answered, name: &Text) -> bool
     ensures { result ≡ keyed.is_user_named answered.now name.now }
 {
     match answered {
-        Answered::Found(Record::User(user)) => user.name == *name,
-        _ => false,
+        Answered::Found(found) => match found.value() {
+            Record::User(user) => user.name == *name,
+            _ => false,
+        },
+        Answered::Absent => false,
     }
 }
 
@@ -65,8 +68,11 @@ fn is_group_named(answered: &Answered, name: &Text) -> bool
     ensures { result ≡ keyed.is_group_named answered.now name.now }
 {
     match answered {
-        Answered::Found(Record::Group(group)) => group.name == *name,
-        _ => false,
+        Answered::Found(found) => match found.value() {
+            Record::Group(group) => group.name == *name,
+            _ => false,
+        },
+        Answered::Absent => false,
     }
 }
 
@@ -97,7 +103,7 @@ pub fn speaks_of(own: &Key, answered: &Answered, key: &Key) -> bool
         return true;
     }
     match answered {
-        Answered::Found(found) => record_speaks(found, key),
+        Answered::Found(found) => record_speaks(found.value(), key),
         Answered::Absent => false,
     }
 }

@@ -4,7 +4,7 @@ ghost use Rattle.sd_keeper.specs.Spelling as spelling;
 ghost use Rattle.sd_keeper.specs.Reading as reading;
 
 use crate::field::{Field, FieldFault, push_bytes};
-use sd_base::Memory;
+use sd_base::{Memory, Shared};
 use sd_rules::{
     Answered, Element, Group, GroupRef, Groups, Host, Key, Record, Rule, RuleBook, Service, User,
 };
@@ -291,7 +291,7 @@ impl Field for Answered {
 
     fn spell(&self, out: &mut Vec<u8>) -> Result<(), Memory> {
         match self {
-            Answered::Found(found) => push_variant(out, 0, found),
+            Answered::Found(found) => push_variant(out, 0, found.value()),
             Answered::Absent => push_bytes(out, &[1]),
         }
     }
@@ -301,6 +301,7 @@ impl Field for Answered {
         match bytes {
             [0, rest @ ..] => {
                 let (found, rest) = Record::read(alloc, rest)?;
+                let found = Shared::new(alloc, found)?;
                 Ok((Answered::Found(found), rest))
             }
             [1, rest @ ..] => Ok((Answered::Absent, rest)),

@@ -86,7 +86,7 @@ pub fn is_answer_of_kind(answered: &Answered, key: &Key) -> bool
     ensures { result ≡ keyed.is_answer_of_kind answered.now key.now }
 {
     match answered {
-        Answered::Found(found) => is_of_kind(found, key),
+        Answered::Found(found) => is_of_kind(found.value(), key),
         Answered::Absent => true,
     }
 }

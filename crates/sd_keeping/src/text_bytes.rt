@@ -107,7 +107,7 @@ pub fn of_answered(answered: &Answered) -> u64
     ensures { result ≡ min (bytes.bytes_of_answered answered.now) (2 ^ 64 - 1) }
 {
     match answered {
-        Answered::Found(found) => of_record(found),
+        Answered::Found(found) => of_record(found.value()),
         Answered::Absent => 0,
     }
 }

@@ -57,7 +57,7 @@ fn speaks_of_named(own: &Key, answered: &Answered, named: Named<'_>) -> bool
         return true;
     }
     match answered {
-        Answered::Found(found) => is_record_named(found, named),
+        Answered::Found(found) => is_record_named(found.value(), named),
         Answered::Absent => false,
     }
 }
@@ -137,7 +137,7 @@ fn is_newest_of_answered(all: &[Entry], number: u64, own: &Key, answered: &Answe
         return true;
     }
     match answered {
-        Answered::Found(found) => is_newest_of_record(all, number, found),
+        Answered::Found(found) => is_newest_of_record(all, number, found.value()),
         Answered::Absent => false,
     }
 }

@@ -2,7 +2,7 @@
 ghost use Rattle.std.specs.Prelude.{◌≡◌, IfOk};
 ghost use Rattle.sd_rules.specs.Lookups as lookups;
 
-use sd_base::{Copied, Memory};
+use sd_base::{Copied, Memory, Shared};
 use sd_rules::{
     Answered, Event, Fetched, Given, Key, LookupStage, LookupStep, Need, Outcome, Record, Refusal,
     Reply, Said,
@@ -30,7 +30,7 @@ pub fn need_of(key: &Key, stage: &LookupStage) -> Result<Need, Memory>
 }
 
 /// The found record of the answer `n`, as a client is told it.
-fn found_said(number: u64, n: u64, found: &mut Option<Record>) -> Said
+fn found_said(number: u64, n: u64, found: &mut Option<Shared<Record>>) -> Said
     ensures { result ≡ lookups.found_said number n found.old }
 {
     match found.take() {
@@ -40,7 +40,7 @@ fn found_said(number: u64, n: u64, found: &mut Option<Record>) -> Said
 }
 
 /// The found record of the answer `n` in the outage `outage`, as a client is told it.
-fn old_said(number: u64, n: u64, outage: u64, found: &mut Option<Record>) -> Said
+fn old_said(number: u64, n: u64, outage: u64, found: &mut Option<Shared<Record>>) -> Said
     ensures { result ≡ lookups.old_said number n outage found.old }
 {
     match found.take() {
@@ -60,7 +60,7 @@ fn refusal_said(refusal: Refusal) -> Said
 }
 
 /// An outcome, as a client is told it.
-fn outcome_said(number: u64, found: &mut Option<Record>, outcome: Outcome) -> Said
+fn outcome_said(number: u64, found: &mut Option<Shared<Record>>, outcome: Outcome) -> Said
     ensures { result ≡ lookups.outcome_said number found.old outcome }
 {
     match outcome {
@@ -84,7 +84,7 @@ fn answered_said(number: u64, answered: Answered) -> Said
     }
 }
 
-fn after_ask(number: u64, found: &mut Option<Record>, reply: Reply) -> LookupStep
+fn after_ask(number: u64, found: &mut Option<Shared<Record>>, reply: Reply) -> LookupStep
     ensures { result ≡ lookups.after_ask number found.old reply }
 {
     match reply {
@@ -101,7 +101,12 @@ fn after_ask(number: u64, found: &mut Option<Record>, reply: Reply) -> LookupSte
     }
 }
 
-fn after_collect(ticket: u64, number: u64, found: &mut Option<Record>, reply: Reply) -> LookupStep
+fn after_collect(
+    ticket: u64,
+    number: u64,
+    found: &mut Option<Shared<Record>>,
+    reply: Reply,
+) -> LookupStep
     ensures { result ≡ lookups.after_collect ticket number found.old reply }
 {
     match reply {
@@ -152,7 +157,12 @@ fn after_fall(request: u64, number: u64, reply: Reply) -> LookupStep
     }
 }
 
-fn after_outage(request: u64, number: u64, found: &mut Option<Record>, reply: Reply) -> LookupStep
+fn after_outage(
+    request: u64,
+    number: u64,
+    found: &mut Option<Shared<Record>>,
+    reply: Reply,
+) -> LookupStep
     ensures { result ≡ lookups.after_outage request number found.old reply }
 {
     match reply {

@@ -2,7 +2,7 @@
 ghost use Rattle.std.specs.Prelude.{◌+◌, ◌≤◌, IfOk};
 
 use crate::kinds::{Kind, rules_of};
-use sd_base::{Memory, Text, Texts};
+use sd_base::{Memory, Shared, Text, Texts};
 use sd_rules::{
     AccessMode, Answered, Element, GroupRef, GroupRefs, Groups, Hash, Host, Key, Record, Row, Rows,
     Rule, RuleBook, RuleList, Service, ServiceList, Settings, SimpleLists, User,
@@ -118,10 +118,14 @@ fn host(alloc: Global) -> Result<Record, Memory> {
     }))
 }
 
+fn found(alloc: Global, record: Record) -> Result<Answered, Memory> {
+    Ok(Answered::Found(Shared::new(alloc, record)?))
+}
+
 fn found_user(alloc: Global, kind: Kind, number: u32) -> Result<Answered, Memory> {
     match kind {
         Kind::Gone => Ok(Answered::Absent),
-        _ => Ok(Answered::Found(Record::User(user(alloc, number)?))),
+        _ => found(alloc, Record::User(user(alloc, number)?)),
     }
 }
 
@@ -129,11 +133,11 @@ fn found_user(alloc: Global, kind: Kind, number: u32) -> Result<Answered, Memory
 pub fn rows(alloc: Global, kind: Kind, users: u32) -> Result<Rows, Memory> {
     let mut rows = Rows::new(alloc);
     rows.push(Row::Head(2, u64::from(users) + 5, 0))?;
-    let book = rules(alloc, rules_of(kind))?;
-    rows.push(Row::Answer(1, 0, Key::Rules, Answered::Found(book), false))?;
-    let host = Answered::Found(host(alloc)?);
+    let book = found(alloc, rules(alloc, rules_of(kind))?)?;
+    rows.push(Row::Answer(1, 0, Key::Rules, book, false))?;
+    let host = found(alloc, host(alloc)?)?;
     rows.push(Row::Answer(2, 0, Key::Host, host, false))?;
-    let groups = Answered::Found(groups(alloc)?);
+    let groups = found(alloc, groups(alloc)?)?;
     let key = Key::GroupsOf(name(alloc, 0)?);
     rows.push(Row::Answer(3, 0, key, groups, false))?;
     let hash = Hash {

@@ -86,8 +86,8 @@ fn found_user(said: &Said) -> bool
     ensures { result ≡ scripts.is_some_dn (lookups.dn_said said.now) }
 {
     match said {
-        Said::Found(_, found) => is_user(found),
-        Said::Old(_, _, found) => is_user(found),
+        Said::Found(_, found) => is_user(found.value()),
+        Said::Old(_, _, found) => is_user(found.value()),
         _ => false,
     }
 }

@@ -3,6 +3,7 @@
 
 pub mod access;
 pub mod closing;
+pub mod found_user;
 pub mod login;
 pub mod proving;
 

@@ -8,8 +8,9 @@ ghost use Rattle.sd_pam.specs.Closings.{led};
 ghost use Rattle.sd_pam.specs.Logins as seen;
 
 use crate::closing::{Closing, Part, Renewals, no_renewals, part_need, with_renewal};
+use crate::found_user::FoundUser;
 use crate::{closing, proving};
-use sd_base::{Copied, Memory, Text};
+use sd_base::{Copied, Memory, Shared, Text};
 use sd_creds::Salts;
 use sd_nss::lookup;
 use sd_rules::{
@@ -32,8 +33,8 @@ pub struct LoginWords {
 pub enum LoginCourse {
     /// The user is looked up.
     Finding(LookupStage),
-    /// The user with this distinguished name is logged in, and these requests are led to renew answers.
-    Proving(Text, Renewals, LoginStage),
+    /// The user is logged in, and these requests are led to renew answers.
+    Proving(FoundUser, Renewals, LoginStage),
     /// It closes.
     Closed(Closing),
 }
@@ -86,22 +87,24 @@ impl LoginTask {
 }
 
 /// What follows where the directory found a record in this answer.
-fn found_now(n: u64, found: Record, renewals: Renewals) -> LoginCourse
+fn found_now(n: u64, found: Shared<Record>, renewals: Renewals) -> LoginCourse
     ensures { (user : List ℕ) → seen.course_of user result ≡ scripts.found_by (says.Found n found) (led user renewals) (lookups.dn_in found) }
 {
-    match found {
-        Record::User(user) => LoginCourse::Proving(user.dn, renewals, LoginStage::Open),
-        found => LoginCourse::Closed(Closing::Saying(Said::Found(n, found), renewals)),
+    match FoundUser::of(found) {
+        Ok(user) => LoginCourse::Proving(user, renewals, LoginStage::Open),
+        Err(found) => LoginCourse::Closed(Closing::Saying(Said::Found(n, found), renewals)),
     }
 }
 
 /// What follows where the directory found a record in this answer, before the outage.
-fn found_earlier(n: u64, outage: u64, found: Record, renewals: Renewals) -> LoginCourse
+fn found_earlier(n: u64, outage: u64, found: Shared<Record>, renewals: Renewals) -> LoginCourse
     ensures { (user : List ℕ) → seen.course_of user result ≡ scripts.found_by (says.Old n outage found) (led user renewals) (lookups.dn_in found) }
 {
-    match found {
-        Record::User(user) => LoginCourse::Proving(user.dn, renewals, LoginStage::Open),
-        found => LoginCourse::Closed(Closing::Saying(Said::Old(n, outage, found), renewals)),
+    match FoundUser::of(found) {
+        Ok(user) => LoginCourse::Proving(user, renewals, LoginStage::Open),
+        Err(found) => {
+            LoginCourse::Closed(Closing::Saying(Said::Old(n, outage, found), renewals))
+        }
     }
 }
 
@@ -184,7 +187,7 @@ fn course_need(words: &LoginWords, course: &LoginCourse) -> Result<Need, Memory>
 {
     match course {
         LoginCourse::Finding(stage) => part_need(&words.user, Part::User, stage),
-        LoginCourse::Proving(dn, _, stage) => proving::need(words, dn, *stage),
+        LoginCourse::Proving(user, _, stage) => proving::need(words, user, *stage),
         LoginCourse::Closed(closing) => closing::need(&words.user, closing),
     }
 }

@@ -3,6 +3,7 @@ ghost use Rattle.std.specs.Prelude.{◌≡◌, IfOk};
 ghost use Rattle.sd_rules.specs.LoginScript as scripts;
 ghost use Rattle.sd_pam.specs.Logins as seen;
 
+use crate::found_user::FoundUser;
 use crate::login::LoginWords;
 use sd_base::{Copied, Memory, Text, Why};
 use sd_creds::{hash, verify};
@@ -20,8 +21,8 @@ const BUSY: u32 = 51;
 const UNAVAILABLE: u32 = 52;
 
 /// What a login needs next.
-pub fn need(words: &LoginWords, dn: &Text, stage: LoginStage) -> Result<Need, Memory>
-    ensures { IfOk result (λ need. need ≡ scripts.login_need (seen.words_of words.now) dn.now stage) }
+pub fn need(words: &LoginWords, user: &FoundUser, stage: LoginStage) -> Result<Need, Memory>
+    ensures { IfOk result (λ need. need ≡ scripts.login_need (seen.words_of words.now) user.now stage) }
 {
     Ok(match stage {
         LoginStage::Open => Need::Step(Event::LoginOpen(words.user.copy()?)),
@@ -29,7 +30,7 @@ pub fn need(words: &LoginWords, dn: &Text, stage: LoginStage) -> Result<Need, Me
             Need::Step(Event::LoginTry(attempt, named, right))
         }
         LoginStage::Pick(attempt) => Need::Step(Event::Pick(attempt)),
-        LoginStage::Bind(_, server) => Need::Bind(server, dn.copy()?, words.password.copy()?),
+        LoginStage::Bind(_, server) => Need::Bind(server, user.dn()?, words.password.copy()?),
         LoginStage::Online(attempt, said) => Need::Step(Event::LoginOnline(attempt, said)),
         LoginStage::Fall(attempt, server, why) => Need::Step(Event::Fall(attempt, server, why)),
         LoginStage::Outage(attempt) => Need::Step(Event::Outage(attempt)),

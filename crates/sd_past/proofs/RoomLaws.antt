@@ -1,16 +1,18 @@
 -- Room for what closes what is open.
-use Rattle.std.proofs.Common.{◌≡◌, ℕ, ◌+◌, ◌≤◌, Bool, true, false, cond, ◌&&◌, not, nat_lt, List, [], ◌∷◌, ◌++◌, length, reverse, filter, Option, None, Some, refl, sym, ◌∙◌, ap, subst, arith}
+use Rattle.std.proofs.Common.{◌≡◌, ℕ, ◌+◌, ◌≤◌, Bool, true, false, cond, not, List, [], ◌∷◌, ◌++◌, length, reverse, filter, Option, None, Some, sym, ◌∙◌, ap, subst, arith}
 use Rattle.std.specs.Prelude.{if◌then◌else◌, Result, Ok, Err, OnOk, IfErr}
 use Rattle.std.proofs.lemmas.List.{reverse-append, length-reverse}
 use Rattle.sd_rules.specs.declared.events.Event.{Event}
 use Rattle.sd_rules.specs.declared.replies.Entry.{Entry}
 use Rattle.sd_rules.specs.Requests.{reserves, reserved_among, reserved_places}
-use Rattle.sd_rules.specs.Needed.{is_needed, needed_among, needed}
+use Rattle.sd_rules.specs.Needed.{needed}
+use Rattle.sd_forgetting.specs.Kept.{IsKeptOf}
+use Rattle.sd_forgetting.proofs.Daemons.{places_same}
 use Rattle.sd_index.specs.Entries.{numbers_fall, falls}
 use Rattle.sd_index.specs.Places.{place_of, listed, reserved, gives_back}
 use Rattle.sd_index.specs.declared.places.Place.{Place}
 use Rattle.sd_index.proofs.CountLaws.{count_reserved}
-use Rattle.sd_index.proofs.FallLaws.{head_below, tail_falls, fall_further, falls_of, falls_from_some, both_of_two, tests_less}
+use Rattle.sd_index.proofs.FallLaws.{falls_of}
 use Rattle.sd_index.proofs.PlaceLaws.{reserved_after}
 use Rattle.sd_past.specs.Closing.{HasRoom}
 
@@ -93,24 +95,15 @@ room_for_all entries capacity h =
     let long : length (reverse entries) ≡ length entries = length-reverse entries in
     omega arith
 
--- what is kept falls, too
-fall_or_not : (b : Bool) (n : ℕ) (e : Entry) (kept : List Entry) → nat_lt e.number n ≡ true → numbers_fall e.number kept ≡ true → numbers_fall n kept ≡ true
-    → numbers_fall n (cond b (e ∷ kept) kept) ≡ true
-fall_or_not true n e kept less near far = both_of_two (nat_lt e.number n) (numbers_fall e.number kept) less near
-fall_or_not false n e kept less near far = far
-
-needed_fall : (all : List Entry) (n : ℕ) (past : List Entry) → numbers_fall n past ≡ true → numbers_fall n (needed_among all past) ≡ true
-needed_fall all n [] h = refl
-needed_fall all n (e ∷ past) h =
-    let lt = head_below n e past h in
-    let near : numbers_fall e.number (needed_among all past) ≡ true = needed_fall all e.number past (tail_falls n e past h) in
-    fall_or_not (is_needed all past e) n e (needed_among all past) (tests_less e.number n lt) near
-    (fall_further e.number n (needed_among all past) near (omega arith))
-
-pub needed_falls : (past : List Entry) → falls past ≡ true → falls (needed past) ≡ true
-needed_falls past h =
-    let some : (n : ℕ) × (numbers_fall n past ≡ true) = falls_from_some past h in
-    falls_of some.0 (needed past) (needed_fall past some.0 past some.1)
+-- the room after a forget
+pub room_kept : (entries kept : List Entry) (room : ℕ) → IsKeptOf (reverse entries) (needed (reverse entries)) → reverse kept ≡ needed (reverse entries)
+    → length entries + reserved_places (reverse entries) ≤ room → HasRoom (reverse kept) room
+room_kept entries kept room shown is has =
+    let few : length (needed (reverse entries)) ≤ length (reverse entries) = shown.shorter in
+    let long : length (reverse entries) ≡ length entries = length-reverse entries in
+    let same : reserved_places (reverse entries) ≡ reserved_places (needed (reverse entries)) = places_same (reverse entries) (needed (reverse entries)) shown in
+    let enough : HasRoom (needed (reverse entries)) room = omega arith in
+    subst (λ (es : List Entry). HasRoom es room) (sym is) enough
 
 -- the room where a place for each entry was made
 pub room_for_more : (entries ys xs : List Entry) (e : Entry) (places capacity room : ℕ) → ys ≡ entries → xs ≡ ys ++ e ∷ [] → room ≡ capacity

@@ -2,9 +2,10 @@
 ghost use Rattle.std.specs.Prelude.{◌≡◌, ◌+◌, ◌≤◌, ◌∷◌, ◌++◌, [], List, length, true, reverse, vec_capacity, IfOk, IfErr, IsOk, OnErr, OnOk};
 ghost use Rattle.std.specs.Option.{option_map};
 ghost use Rattle.sd_rules.specs.declared.replies.Entry.{Entry};
+ghost use Rattle.sd_rules.specs.Needed as needed;
 ghost use Rattle.sd_rules.specs.Requests as requests;
+ghost use Rattle.sd_forgetting.specs.Kept.{IsKeptOf};
 ghost use Rattle.sd_index.specs.Entries.{falls, numbers_fall};
-ghost use Rattle.sd_index.specs.Places.{gives_back_in};
 ghost use Rattle.sd_index.specs.Table.{Indexes, takes_none};
 ghost use Rattle.sd_past.specs.Closing.{closes_place, HasRoom};
 
@@ -16,11 +17,12 @@ use sd_cache::Primed;
 use sd_index::Index;
 use sd_journal::past::Standing;
 use sd_rows::rows_of;
-use sd_rules::{Entry, Event, Journal, Key, Reply, Rows, Settings};
+use sd_rules::{Entry, Event, Key, Reply, Rows, Settings};
 use sd_sieve::whole::Whole;
-use sd_sieve::{Sifted, sift};
+use sd_sieve::{Plan, Sifted, plan_of, sift};
 use std::alloc::Global;
 use std::marker::Model;
+use std::mem;
 
 /// The list of the entries and its index; contracts see the entries, the newest first.
 #[derive(Drop)]
@@ -109,16 +111,57 @@ fn put_indexed(entries: &mut Vec<Entry>, index: &mut Index, entry: Entry) -> Res
     }
 }
 
-impl IndexedPast {
-    /// Puts other entries and their index in the place of all.
-    fn keep(&mut self, entries: Vec<Entry>, index: Index)
-        requires room { HasRoom (reverse entries.items) (vec_capacity entries) }
-        requires indexes { Indexes (reverse entries.items) index }
-        ensures { self.new ≡ reverse entries.items }
-    {
-        self.entries = entries;
-        self.index = index;
-    }
+/// No entries, with room for so many.
+fn room_for(alloc: Global, count: usize) -> Result<Vec<Entry>, Memory>
+    ensures none { IfOk result (λ made. made.items ≡ []) }
+    ensures room { IfOk result (λ made. count ≤ vec_capacity made) }
+{
+    let mut made = Vec::new(alloc);
+    made.reserve(count)?;
+    Ok(made)
+}
+
+/// The list that a forget hands back the entries in, and the list for those that are kept, with room for as many as there are and for
+/// those that close what is open.
+fn rooms(
+    alloc: Global,
+    entries: &[Entry],
+    index: &Index,
+) -> Result<(Vec<Entry>, Vec<Entry>), Memory>
+    requires { Indexes (reverse entries.now) index.now }
+    ensures none { IfOk result (λ made. made.0.items ≡ []) }
+    ensures nor { IfOk result (λ made. made.1.items ≡ []) }
+    ensures dropped { IfOk result (λ made. length entries.now ≤ vec_capacity made.0) }
+    ensures kept { IfOk result (λ made. length entries.now + requests.reserved_places (reverse entries.now) ≤ vec_capacity made.1) }
+{
+    let dropped = room_for(alloc, entries.len())?;
+    let kept = room_for(alloc, entries.len() + index.reserved_places())?;
+    Ok((dropped, kept))
+}
+
+/// Forgets the entries that no later event can look at, and hands them back. All memory is taken before an entry is moved.
+fn forget_indexed(
+    alloc: Global,
+    hasher: Primed,
+    entries: &mut Vec<Entry>,
+    index: &mut Index,
+) -> Result<Vec<Entry>, Memory>
+    requires indexes { Indexes (reverse entries.old.items) index.old }
+    requires shown { IsKeptOf (reverse entries.old.items) (needed.needed (reverse entries.old.items)) }
+    requires room { HasRoom (reverse entries.old.items) (vec_capacity entries.old) }
+    ensures kept { OnOk result (reverse entries.new.items ≡ needed.needed (reverse entries.old.items)) }
+    ensures back { IfOk result (λ dropped. reverse dropped.items ≡ needed.forgotten (reverse entries.old.items)) }
+    ensures unchanged { OnErr result (entries.new.items ≡ entries.old.items) }
+    ensures indexes { Indexes (reverse entries.new.items) index.new }
+    ensures room { HasRoom (reverse entries.new.items) (vec_capacity entries.new) }
+{
+    let Plan { marks, remade } = plan_of(alloc, hasher, entries.as_slice(), index)?;
+    let (dropped, kept) = rooms(alloc, entries.as_slice(), index)?;
+    let all = mem::replace(entries, Vec::new(alloc));
+    let Sifted { kept, dropped } = sift(all, marks.as_slice(), kept, dropped);
+    *entries = kept;
+    index.remake(remade);
+    Ok(dropped)
 }
 
 impl Past for IndexedPast {
@@ -183,11 +226,7 @@ impl Past for IndexedPast {
         put_indexed(&mut self.entries, &mut self.index, entry)
     }
 
-    fn forget(&mut self, alloc: Global) -> Result<Journal, Memory> {
-        let Sifted { kept, dropped } = sift(alloc, self.entries.as_slice(), &self.index)?;
-        let entries = with_room(kept)?;
-        let index = Index::of(alloc, self.hasher, entries.as_slice())?;
-        self.keep(entries, index);
-        Ok(dropped)
+    fn forget(&mut self, alloc: Global) -> Result<Vec<Entry>, Memory> {
+        forget_indexed(alloc, self.hasher, &mut self.entries, &mut self.index)
     }
 }

@@ -14,7 +14,7 @@ use sd_journal::requests::{is_open, is_open_attempt, is_open_request, reserved_p
 use sd_journal::{answers, past, servers};
 use sd_keeping::rows_of;
 use sd_needs::{forgotten, needed};
-use sd_rules::{Entry, Event, Journal, Key, Reply, Rows, Settings};
+use sd_rules::{Entry, Event, Key, Reply, Rows, Settings};
 use std::alloc::Global;
 use std::marker::Model;
 
@@ -133,8 +133,9 @@ impl Past for ListedPast {
         put_listed(&mut self.entries, entry)
     }
 
-    fn forget(&mut self, alloc: Global) -> Result<Journal, Memory> {
+    fn forget(&mut self, alloc: Global) -> Result<Vec<Entry>, Memory> {
         let dropped = forgotten(alloc, self.entries.as_slice())?;
+        let dropped = copied(alloc, dropped.items())?;
         let kept = needed(alloc, self.entries.as_slice())?;
         let kept = copied(alloc, kept.items())?;
         self.keep(kept);

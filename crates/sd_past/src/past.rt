@@ -10,6 +10,7 @@ ghost use Rattle.sd_rules.specs.Servers as servers;
 ghost use Rattle.sd_rules.specs.Steps as steps;
 ghost use Rattle.sd_journal.specs.Seen as seen;
 ghost use Rattle.sd_keeping.specs.Counts as counts;
+ghost use Rattle.sd_forgetting.specs.Kept.{IsKeptOf};
 ghost use Rattle.sd_index.specs.Entries.{falls, numbers_fall};
 ghost use Rattle.sd_index.specs.Table.{takes_none};
 ghost use Rattle.sd_past.specs.Closing.{closes_place};
@@ -17,7 +18,7 @@ ghost use Rattle.sd_rows.specs.Kept.{Keeps};
 
 use sd_base::Memory;
 use sd_journal::past::Standing;
-use sd_rules::{Entry, Event, Journal, Key, Reply, Rows, Settings};
+use sd_rules::{Entry, Event, Key, Reply, Rows, Settings};
 use std::alloc::Global;
 
 /// The entries made so far, whose numbers rise.
@@ -83,9 +84,11 @@ pub trait Past: Drop {
         ensures err { IfErr result (λ event. (entries self.new ≡ entries self.old) × (event ≡ entry.event)) }
         ensures closing { closes_place (entries self.old) entry.event ≡ true → IsOk result };
 
-    /// Forgets the entries that no later event can look at, and hands them back, the oldest first.
-    fn forget(&mut self, alloc: Global) -> Result<Journal, Memory>
+    /// Forgets the entries that no later event can look at, and hands them back, the oldest first. What is kept shows all that the
+    /// whole does.
+    fn forget(&mut self, alloc: Global) -> Result<Vec<Entry>, Memory>
+        requires shown { IsKeptOf (entries self.old) (needed.needed (entries self.old)) }
         ensures kept { OnOk result (entries self.new ≡ needed.needed (entries self.old)) }
-        ensures back { IfOk result (λ dropped. reverse dropped ≡ needed.forgotten (entries self.old)) }
+        ensures back { IfOk result (λ dropped. reverse dropped.items ≡ needed.forgotten (entries self.old)) }
         ensures unchanged { OnErr result (entries self.new ≡ entries self.old) };
 }

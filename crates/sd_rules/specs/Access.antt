@@ -1,9 +1,9 @@
 -- Account checks: by mode, by the simple lists, or by the access rules of the directory.
-use Rattle.std.specs.Prelude.{ℕ, Bool, true, false, ◌&&◌, ◌||◌, ◌==◌, ◌+◌, not, nat_lt, map, List, [], ◌∷◌, ◌++◌, Option, Some, None, if◌then◌else◌}
+use Rattle.std.specs.Prelude.{ℕ, Bool, true, false, ◌&&◌, ◌||◌, ◌==◌, ◌+◌, nat_lt, map, List, [], ◌∷◌, ◌++◌, Option, Some, None, if◌then◌else◌}
 use Rattle.std.specs.List.{list_any}
 use Rattle.sd_rules.specs.declared.keys.Key.TheVariants as keys
 use Rattle.sd_rules.specs.declared.records.Answered.{Answered}
-use Rattle.sd_rules.specs.declared.records.Answered.TheVariants.{Found, Absent}
+use Rattle.sd_rules.specs.declared.records.Answered.TheVariants.{Found}
 use Rattle.sd_rules.specs.declared.records.Element.{Element}
 use Rattle.sd_rules.specs.declared.records.GroupRef.{GroupRef}
 use Rattle.sd_rules.specs.declared.records.Record.TheVariants as records
@@ -19,7 +19,7 @@ use Rattle.sd_rules.specs.declared.replies.NotBy.TheVariants as not_by
 use Rattle.sd_rules.specs.declared.replies.Entry.{Entry}
 use Rattle.sd_rules.specs.declared.replies.Reply.{Reply}
 use Rattle.sd_rules.specs.declared.replies.Reply.TheVariants as replies
-use Rattle.sd_rules.specs.Keys.{same_name, same_letters}
+use Rattle.sd_rules.specs.Keys.{same_letters}
 use Rattle.sd_rules.specs.Past.{Standing, newest}
 use Rattle.sd_rules.specs.Answers.{lists_name}
 

@@ -1,6 +1,6 @@
 -- What the entries made so far say of keys: their answers, invalidations and outages.
 -- A past is the list of the entries made so far, the newest first.
-use Rattle.std.specs.Prelude.{ℕ, Bool, true, false, ◌&&◌, ◌||◌, ◌==◌, ◌+◌, nat_lt, List, [], ◌∷◌, Option, Some, None, if◌then◌else◌}
+use Rattle.std.specs.Prelude.{ℕ, Bool, true, false, ◌||◌, ◌==◌, ◌+◌, nat_lt, List, [], ◌∷◌, Option, Some, None, if◌then◌else◌}
 use Rattle.sd_rules.specs.declared.keys.Key.{Key}
 use Rattle.sd_rules.specs.declared.records.Answered.{Answered}
 use Rattle.sd_rules.specs.declared.events.Event.{Event}
@@ -9,7 +9,7 @@ use Rattle.sd_rules.specs.declared.events.Row.TheVariants as rows
 use Rattle.sd_rules.specs.declared.replies.Entry.{Entry}
 use Rattle.sd_rules.specs.declared.replies.Reply.{Reply}
 use Rattle.sd_rules.specs.declared.replies.Reply.TheVariants as replies
-use Rattle.sd_rules.specs.Keys.{same_key, speaks_of, covers}
+use Rattle.sd_rules.specs.Keys.{speaks_of, covers}
 
 abbrev pub is_closed : Reply → Bool
 is_closed replies.Closed = true

@@ -12,7 +12,7 @@ use Rattle.sd_rules.specs.declared.replies.Reply.{Reply}
 use Rattle.sd_rules.specs.declared.replies.Reply.TheVariants as replies
 use Rattle.sd_rules.specs.declared.replies.Verdict.TheVariants as verdicts
 use Rattle.sd_rules.specs.Keys.{same_key}
-use Rattle.sd_rules.specs.Past.{Standing, is_closed, is_shut, key_of, answer_in, is_voided}
+use Rattle.sd_rules.specs.Past.{is_closed, is_shut}
 
 abbrev pub is_lead : Reply → Bool
 is_lead (replies.Lead request) = true

@@ -1,5 +1,5 @@
 // What the directory tells of users, groups, this host and the access rules.
-use sd_base::{Copied, Items, Memory, Text, Texts};
+use sd_base::{Copied, Items, Memory, Shared, Text, Texts};
 
 /// A user: posixAccount of RFC 2307.
 #[derive(Debug, Drop, PartialEq, Eq)]
@@ -94,10 +94,10 @@ pub enum Record {
     Rules(RuleBook),
 }
 
-/// The directory's answer to a key.
+/// The directory's answer to a key. A record is shared by all that speak of it: the journal, and who is told it.
 #[derive(Debug, Drop, PartialEq, Eq)]
 pub enum Answered {
-    Found(Record),
+    Found(Shared<Record>),
     Absent,
 }
 

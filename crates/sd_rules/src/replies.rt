@@ -1,7 +1,7 @@
 // What the daemon replies to an event, and the entry that both make.
 use crate::events::{Event, Hash, Refusal};
 use crate::records::Record;
-use sd_base::{Copied, Items, Memory, Text};
+use sd_base::{Copied, Items, Memory, Shared, Text};
 
 /// What a request came to. The numbers are those of entries.
 #[derive(Clone, Copy, Debug, PartialEq, Eq)]
@@ -145,7 +145,7 @@ pub struct Given {
     pub number: u64,
     pub reply: Reply,
     /// The record of the answer that the reply names.
-    pub found: Option<Record>,
+    pub found: Option<Shared<Record>>,
     /// The stored hash that the reply names.
     pub hash: Option<Hash>,
     /// The name of the rule that the reply names.

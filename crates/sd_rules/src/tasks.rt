@@ -6,7 +6,7 @@ use crate::events::Event;
 use crate::keys::Key;
 use crate::records::Record;
 use crate::replies::Given;
-use sd_base::{Copied, Memory, Text, Texts, Why};
+use sd_base::{Copied, Memory, Shared, Text, Texts, Why};
 
 /// Whom and what an account check is about.
 #[derive(Clone, Copy)]
@@ -21,7 +21,7 @@ pub struct Who<'a> {
 /// What the lookup of a key at a server came to.
 #[derive(Debug, Drop, PartialEq, Eq)]
 pub enum Fetched {
-    Found(Record),
+    Found(Shared<Record>),
     Absent,
     /// The result code received.
     Refused(u32),
@@ -43,9 +43,9 @@ pub enum Bound {
 /// What a client is told. Numbers are those of entries, moments are seconds.
 #[derive(Debug, Drop, PartialEq, Eq)]
 pub enum Said {
-    Found(u64, Record),
+    Found(u64, Shared<Record>),
     Absent(u64),
-    Old(u64, u64, Record),
+    Old(u64, u64, Shared<Record>),
     OldNone(u64, u64),
     Dark(u64),
     Filtered,

@@ -3,7 +3,7 @@ use crate::{
     Answered, Element, Event, Fetched, Group, GroupRef, GroupRefs, Groups, Host, Key, LoginResult,
     Record, Refusal, Row, Rule, RuleBook, RuleList, Service, ServiceList, User, What,
 };
-use sd_base::{Copied, Memory, Text, Texts, Why};
+use sd_base::{Copied, Memory, Shared, Text, Texts, Why};
 use std::alloc::Global;
 use std::fmt::Debug;
 use std::process::Abort;
@@ -139,13 +139,13 @@ fn answers(rt: HostRuntime) -> Result<(), Fail> {
         &rt,
         &[
             Answered::Absent,
-            Answered::Found(user(alloc)?),
-            Answered::Found(group(alloc)?),
-            Answered::Found(groups(alloc, None)?),
-            Answered::Found(groups(alloc, Some(2))?),
-            Answered::Found(host(alloc)?),
-            Answered::Found(rules(alloc, true)?),
-            Answered::Found(rules(alloc, false)?),
+            Answered::Found(Shared::new(alloc, user(alloc)?)?),
+            Answered::Found(Shared::new(alloc, group(alloc)?)?),
+            Answered::Found(Shared::new(alloc, groups(alloc, None)?)?),
+            Answered::Found(Shared::new(alloc, groups(alloc, Some(2))?)?),
+            Answered::Found(Shared::new(alloc, host(alloc)?)?),
+            Answered::Found(Shared::new(alloc, rules(alloc, true)?)?),
+            Answered::Found(Shared::new(alloc, rules(alloc, false)?)?),
         ],
     )
 }
@@ -174,7 +174,7 @@ fn events(rt: HostRuntime) -> Result<(), Fail> {
 fn what_was_fetched(rt: HostRuntime) -> Result<(), Fail> {
     let alloc = rt.alloc();
     for fetched in [
-        Fetched::Found(user(alloc)?),
+        Fetched::Found(Shared::new(alloc, user(alloc)?)?),
         Fetched::Absent,
         Fetched::Refused(53),
         Fetched::Many(2),

@@ -1,4 +1,5 @@
 pub mod MarkLaws
+mod KeptLaws
 pub mod FindingLaws
 pub mod ServeLaws
 pub mod ReadLaws

@@ -5,3 +5,4 @@ pub mod Falls
 pub mod Covers
 pub mod Findings
 pub mod Readings
+pub mod Plans

@@ -72,7 +72,7 @@ fn is_newest_of_answered(
         return Ok(true);
     }
     match answered {
-        Answered::Found(found) => is_newest_of_record(whole, number, found),
+        Answered::Found(found) => is_newest_of_record(whole, number, found.value()),
         Answered::Absent => Ok(false),
     }
 }

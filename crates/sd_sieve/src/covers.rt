@@ -137,8 +137,11 @@ fn user_found(answered: &Answered) -> Option<&Text>
     ensures { option_copied result ≡ covers.user_found answered.now }
 {
     match answered {
-        Answered::Found(Record::User(user)) => Some(&user.name),
-        _ => None,
+        Answered::Found(found) => match found.value() {
+            Record::User(user) => Some(&user.name),
+            _ => None,
+        },
+        Answered::Absent => None,
     }
 }
 
@@ -146,8 +149,11 @@ fn group_found(answered: &Answered) -> Option<&Text>
     ensures { option_copied result ≡ covers.group_found answered.now }
 {
     match answered {
-        Answered::Found(Record::Group(group)) => Some(&group.name),
-        _ => None,
+        Answered::Found(found) => match found.value() {
+            Record::Group(group) => Some(&group.name),
+            _ => None,
+        },
+        Answered::Absent => None,
     }
 }
 

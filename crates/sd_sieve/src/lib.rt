@@ -15,4 +15,4 @@ pub mod users;
 pub mod voids;
 pub mod whole;
 
-pub use sieve::{Sifted, sift};
+pub use sieve::{Plan, Sifted, plan_of, sift};

@@ -112,9 +112,9 @@ pub fn push_line(
     ensures kept { forms.Keeps out.old.items out.new.items }
 {
     match said {
-        Said::Found(n, found) => push_found(alloc, out, *n, found, pwfield),
+        Said::Found(n, found) => push_found(alloc, out, *n, found.value(), pwfield),
         Said::Absent(n) => push_numbered(alloc, out, b"none ", *n),
-        Said::Old(n, outage, found) => push_old(alloc, out, *n, *outage, found, pwfield),
+        Said::Old(n, outage, found) => push_old(alloc, out, *n, *outage, found.value(), pwfield),
         Said::OldNone(n, outage) => push_numbered_twice(alloc, out, b"oldnone ", *n, *outage),
         Said::Dark(outage) => push_numbered(alloc, out, b"dark ", *outage),
         Said::Filtered => push_bytes(out, b"filtered"),

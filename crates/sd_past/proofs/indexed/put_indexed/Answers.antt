@@ -1,4 +1,4 @@
-use Rattle.std.proofs.Common.{ℕ, List, ◌+◌, ◌≤◌, length, reverse, vec_capacity, arith, ap, sym, ◌∙◌}
+use Rattle.std.proofs.Common.{List, ◌+◌, ◌≤◌, length, reverse, vec_capacity, arith, ap, sym, ◌∙◌}
 use Rattle.sd_rules.specs.declared.replies.Entry.{Entry}
 use Rattle.sd_rules.specs.Requests.{reserved_places}
 use Rattle.sd_past.proofs.RoomLaws.{appended_there, kept_there, room_either, room_given_back, room_with_more}

@@ -1,4 +1,4 @@
-use Rattle.std.proofs.Common.{ℕ, List, ◌≤◌, length, reverse, vec_capacity, arith, ap, sym, ◌∙◌}
+use Rattle.std.proofs.Common.{List, ◌≤◌, length, reverse, vec_capacity, arith, ap, sym, ◌∙◌}
 use Rattle.sd_rules.specs.declared.replies.Entry.{Entry}
 use Rattle.sd_past.specs.Closing.{closes_place}
 use Rattle.sd_past.proofs.RoomLaws.{room_for_more, room_given_back}

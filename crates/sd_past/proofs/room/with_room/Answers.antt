@@ -1,4 +1,4 @@
-use Rattle.std.proofs.Common.{ℕ, List, ◌+◌, ◌≤◌, length, reverse, vec_capacity, arith, ap}
+use Rattle.std.proofs.Common.{List, ◌+◌, ◌≤◌, length, vec_capacity, arith, ap}
 use Rattle.sd_rules.specs.declared.replies.Entry.{Entry}
 use Rattle.sd_past.proofs.RoomLaws.{room_for_all}
 use Rattle.sd_past.proofs.room.with_room.Goals as goal

@@ -1,14 +1,14 @@
 use Rattle.std.proofs.Common.{List, ◌-◌, ◌^◌, min, ap, ◌∙◌}
 use Rattle.sd_rules.specs.declared.replies.Entry.{Entry}
 use Rattle.sd_rules.specs.TextBytes.{text_bytes}
+use Rattle.sd_forgetting.proofs.Forgets.{needed_kept}
 use Rattle.sd_core.specs.Looks.{has_stopped}
 use Rattle.sd_core.proofs.HeldLaws.{held_forgotten}
-use Rattle.sd_core.proofs.NotedLaws.{logins_shown}
 use Rattle.sd_core.proofs.RuledLaws.{says_forgotten}
 use Rattle.sd_core.proofs.cores.EntryCore.forget.Goals as goal
 
-pub forget-requires-clause-logins : goal.forget-requires-clause-logins
-forget-requires-clause-logins g c = logins_shown c.self.inside.next (g.P.Past.entries c.self.inside.past) c.self.invariant.0.kept.orderly
+pub forget-requires-clause-shown : goal.forget-requires-clause-shown
+forget-requires-clause-shown g c = needed_kept c.self.inside.next (g.P.Past.entries c.self.inside.past) c.self.invariant.0.kept.orderly
 
 pub invariant_of-self-2 : goal.invariant_of-self-2
 invariant_of-self-2 g c = (

@@ -1,4 +1,4 @@
-use Rattle.std.proofs.Common.{ℕ, ◌+◌, ◌-◌, ◌^◌, min, not, List, ◌++◌, filter, reverse, Option, sym, ◌∙◌, ap, subst}
+use Rattle.std.proofs.Common.{not, List, ◌++◌, filter, reverse, Option, sym, ◌∙◌, ap, subst}
 use Rattle.sd_rules.specs.declared.replies.Entry.{Entry}
 use Rattle.sd_index.specs.declared.places.Place.{Place}
 use Rattle.sd_index.specs.Places.{listed, gives_back}
@@ -16,4 +16,3 @@ returns-clause-ok c =
     ∙ ap (λ (ps : List Place). filter (λ p. not (gives_back c.args.entry.now.event c.args.entry.now.reply p)) ps ++ listed c.in_ok-place.place) c.in_ok-make_room.ensures.same
     ∙ ap (λ (o : Option Place). filter (λ p. not (gives_back c.args.entry.now.event c.args.entry.now.reply p)) c.self.inside.places.items ++ listed o) c.in_ok-place.ensures.made)
     (c.note.ensures ∙ ap (λ (es : List Entry). signals_after (reverse es) c.args.entry.now) c.in_ok-make_room-2.ensures.same)
-    (c.saturating_add-self-inside.ensures ∙ ap (λ (n : ℕ). min (c.self.inside.text_bytes + n) (2 ^ 64 - 1)) c.of_event.ensures)

@@ -1,6 +1,5 @@
-use Rattle.std.proofs.Common.{List, ◌∙◌, ap}
+use Rattle.std.proofs.Common.{◌∙◌, ap}
 use Rattle.std.specs.List.{list_any}
-use Rattle.sd_index.specs.declared.places.Place.{Place}
 use Rattle.sd_index.specs.Places.{is_attempt_of}
 use Rattle.sd_index.specs.Table.{Table}
 use Rattle.sd_index.proofs.OpenLaws.{attempt_is}

@@ -1,0 +1,97 @@
+-- The entries that a forget keeps, one entry of the journal after another.
+use Rattle.std.proofs.Common.{◌≡◌, ℕ, ◌+◌, ◌<◌, ◌≤◌, Bool, true, false, cond, nat_lt, List, [], ◌∷◌, ◌++◌, reverse, length, get_or, take, refl, sym, ◌∙◌, ap, arith}
+use Rattle.std.proofs.lemmas.List.{reverse-append, take_more, length_push}
+use Rattle.sd_rules.specs.declared.replies.Entry.{Entry}
+use Rattle.sd_rules.specs.Needed.{is_needed, needed_among, forgotten_among}
+use Rattle.sd_index.specs.Entries.{falls, numbers_fall}
+use Rattle.sd_index.proofs.FallLaws.{head_below, tail_falls, fall_further, both_of_two, tests_less}
+use Rattle.sd_index.proofs.Halves.{numbers_before}
+use Rattle.sd_sieve.specs.Marks.{MarkNeeded}
+use Rattle.sd_sieve.proofs.MarkLaws.{needed_at}
+
+-- their numbers fall, too
+fall_or_not : (b : Bool) (n : ℕ) (e : Entry) (kept : List Entry) → nat_lt e.number n ≡ true → numbers_fall e.number kept ≡ true → numbers_fall n kept ≡ true
+    → numbers_fall n (cond b (e ∷ kept) kept) ≡ true
+fall_or_not true n e kept less near far = both_of_two (nat_lt e.number n) (numbers_fall e.number kept) less near
+fall_or_not false n e kept less near far = far
+
+needed_fall : (all : List Entry) (n : ℕ) (past : List Entry) → numbers_fall n past ≡ true → numbers_fall n (needed_among all past) ≡ true
+needed_fall all n [] h = refl
+needed_fall all n (e ∷ past) h =
+    let lt : e.number < n = head_below n e past h in
+    let near : numbers_fall e.number (needed_among all past) ≡ true = needed_fall all e.number past (tail_falls n e past h) in
+    fall_or_not (is_needed all past e) n e (needed_among all past) (tests_less e.number n lt) near
+    (fall_further e.number n (needed_among all past) near (omega arith))
+
+pub kept_below : (es : List Entry) (i : ℕ) (e : Entry) → falls (reverse es) ≡ true → i < length es → e ≡ get_or es i e
+    → numbers_fall e.number (needed_among (reverse es) (reverse (take i es))) ≡ true
+kept_below es i e h lt at = needed_fall (reverse es) e.number (reverse (take i es)) (numbers_before es i e h lt at)
+
+-- one entry more
+one_more : (es : List Entry) (i : ℕ) (e : Entry) → i < length es → e ≡ get_or es i e → reverse (take (i + 1) es) ≡ e ∷ reverse (take i es)
+one_more es i e lt at =
+    ap (λ (xs : List Entry). reverse xs) (take_more es i e lt ∙ ap (λ (x : Entry). take i es ++ x ∷ []) (sym at)) ∙ reverse-append (take i es) (e ∷ [])
+
+pub needed_more : (es : List Entry) (i : ℕ) (e : Entry) (b : Bool) → i < length es → e ≡ get_or es i e → b ≡ is_needed (reverse es) (reverse (take i es)) e
+    → needed_among (reverse es) (reverse (take (i + 1) es)) ≡ cond b (e ∷ needed_among (reverse es) (reverse (take i es))) (needed_among (reverse es) (reverse (take i es)))
+needed_more es i e b lt at is =
+    ap (λ (xs : List Entry). needed_among (reverse es) xs) (one_more es i e lt at)
+    ∙ ap (λ (c : Bool). cond c (e ∷ needed_among (reverse es) (reverse (take i es))) (needed_among (reverse es) (reverse (take i es)))) (sym is)
+
+-- the entries before a place are sifted, and those from it on stand where they stood
+pub record IsSifted (whole left front back : List Entry) (place : ℕ) : Type 0 where
+  pub long : length left ≡ length whole
+  pub rest : (j : ℕ) (d : Entry) → place ≤ j → get_or left j d ≡ get_or whole j d
+  pub kept : reverse front ≡ needed_among (reverse whole) (reverse (take place whole))
+  pub dropped : reverse back ≡ forgotten_among (reverse whole) (reverse (take place whole))
+  pub count : length front + length back ≡ place
+
+pub none_sifted : (whole kept dropped : List Entry) → kept ≡ [] → dropped ≡ [] → IsSifted whole whole kept dropped 0
+none_sifted whole kept dropped none nor = record {
+  long = refl;
+  rest = λ j d h. refl;
+  kept = ap (λ (xs : List Entry). reverse xs) none;
+  dropped = ap (λ (xs : List Entry). reverse xs) nor;
+  count = omega (arith, ap (λ (xs : List Entry). length xs) none, ap (λ (xs : List Entry). length xs) nor);
+}
+
+put_kept : (b : Bool) (xs ys : List Entry) (e : Entry) → reverse xs ≡ ys → reverse (cond b (xs ++ e ∷ []) xs) ≡ cond b (e ∷ ys) ys
+put_kept true xs ys e h = reverse-append xs (e ∷ []) ∙ ap (λ (zs : List Entry). e ∷ zs) h
+put_kept false xs ys e h = h
+
+put_dropped : (b : Bool) (xs ys : List Entry) (e : Entry) → reverse xs ≡ ys → reverse (cond b xs (xs ++ e ∷ [])) ≡ cond b ys (e ∷ ys)
+put_dropped true xs ys e h = h
+put_dropped false xs ys e h = reverse-append xs (e ∷ []) ∙ ap (λ (zs : List Entry). e ∷ zs) h
+
+put_count : (b : Bool) (xs ys : List Entry) (e : Entry) (i : ℕ) → length xs + length ys ≡ i → length (cond b (xs ++ e ∷ []) xs) + length (cond b ys (ys ++ e ∷ [])) ≡ i + 1
+put_count true xs ys e i h = let more = length_push xs e in omega (arith, more)
+put_count false xs ys e i h = let more = length_push ys e in omega (arith, more)
+
+pub sifted_more : (whole left new kept dropped longer further : List Entry) (ms : List Bool) (i : ℕ) (e : Entry) (b d : Bool) → MarkNeeded whole ms → i < length whole
+    → IsSifted whole left kept dropped i → e ≡ get_or left i e → b ≡ get_or ms i d → length new ≡ length left
+    → ((j : ℕ) (d : Entry) → i < j → get_or new j d ≡ get_or left j d)
+    → longer ≡ cond b (kept ++ e ∷ []) kept → further ≡ cond b dropped (dropped ++ e ∷ []) → IsSifted whole new longer further (i + 1)
+sifted_more whole left new kept dropped longer further ms i e b d marks lt s taken mark long rest put other =
+    let at : e ≡ get_or whole i e = taken ∙ s.rest i e (omega arith) in
+    let is : is_needed (reverse whole) (reverse (take i whole)) e ≡ b = sym (mark ∙ needed_at whole ms i e d marks lt at) in
+    let more = one_more whole i e lt at in
+    let ys : List Entry = needed_among (reverse whole) (reverse (take i whole)) in
+    let zs : List Entry = forgotten_among (reverse whole) (reverse (take i whole)) in
+    record {
+      long = long ∙ s.long;
+      rest = λ j d h. rest j d (omega arith) ∙ s.rest j d (omega arith);
+      kept =
+          ap (λ (xs : List Entry). reverse xs) put
+          ∙ put_kept b kept ys e s.kept
+          ∙ ap (λ (c : Bool). cond c (e ∷ ys) ys) (sym is)
+          ∙ sym (ap (λ (xs : List Entry). needed_among (reverse whole) xs) more);
+      dropped =
+          ap (λ (xs : List Entry). reverse xs) other
+          ∙ put_dropped b dropped zs e s.dropped
+          ∙ ap (λ (c : Bool). cond c zs (e ∷ zs)) (sym is)
+          ∙ sym (ap (λ (xs : List Entry). forgotten_among (reverse whole) xs) more);
+      count =
+          ap (λ (xs : List Entry). length xs + length further) put
+          ∙ ap (λ (xs : List Entry). length (cond b (kept ++ e ∷ []) kept) + length xs) other
+          ∙ put_count b kept dropped e i s.count;
+    }

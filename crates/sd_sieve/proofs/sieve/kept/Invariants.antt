@@ -1,7 +1,0 @@
-use Rattle.std.proofs.Common.{◌≡◌, reverse, take}
-use Rattle.sd_rules.specs.Needed as needed
-use Rattle.sd_sieve.proofs.sieve.kept.Given as goal
-
--- the entries so far
-abbrev pub invariant-loop-place : goal.invariant-loop-place
-invariant-loop-place l = reverse l.kept.items ≡ needed.needed_among (reverse l.entries) (reverse (take l.place l.entries))
