@@ -1,5 +1,5 @@
 -- What a bind comes to over a link that tells the directory behind it.
-use Rattle.std.specs.Prelude.{◌≡◌, ℕ, if◌then◌else◌, List, [], ◌∷◌, Option, Some, None}
+use Rattle.std.specs.Prelude.{◌≡◌, ℕ, ◌+◌, if◌then◌else◌, List, [], ◌∷◌, ◌++◌, length, Option, Some, None}
 use Rattle.sd_base.specs.declared.Why.{Why}
 use Rattle.sd_base.specs.declared.Why.TheVariants as whys
 use Rattle.sd_rules.specs.declared.tasks.Bound.{Bound}
@@ -8,10 +8,12 @@ use Rattle.sd_ldap.specs.declared.entry.DirEntry.{DirEntry}
 use Rattle.sd_ldap.specs.Values.{bind_response}
 use Rattle.sd_match.specs.Answering.{told, reply, bind_code}
 use Rattle.sd_dial.specs.Entries.{Behind}
-use Rattle.sd_client.specs.Deciding.{Decision, ended}
-use Rattle.sd_client.specs.Talk.{bind_message, without_entries}
+use Rattle.sd_client.specs.declared.step.Request.TheVariants as requests
+use Rattle.sd_client.specs.Deciding.{Decision, ended, decided}
+use Rattle.sd_client.specs.Links.{Links, answer_of}
+use Rattle.sd_client.specs.Talk.{Talk, bind_message, without_entries}
 use Rattle.sd_asking.specs.Sizes.{content_size, is_too_long, total_size, first_limit}
-use Rattle.sd_asking.specs.Settled.{IsFailedBy}
+use Rattle.sd_asking.specs.Settled.{GoesOn, IsFailedBy, OverTold}
 
 -- the code, or a failure
 pub data ToldBound : Type 0 where
@@ -63,3 +65,19 @@ abbrev pub IsBoundBy : Bound → Decision → ℕ → Option (List ℕ) → Type
 IsBoundBy (bounds.Code result) decision at coming = without_entries decision ≡ ended [] result at
 IsBoundBy (bounds.Failed why) decision at coming = IsFailedBy why decision coming
 IsBoundBy bounds.Memory decision at coming = Unit {0}
+
+-- a bind came to what all bytes that answer it decide
+abbrev pub IsBoundByAnswer : {L : Type 0} → Links L → Talk L → List ℕ → List ℕ → Bound → Talk L → Type 0
+IsBoundByAnswer links old name password result new =
+    IsBoundBy result (decided requests.Bind old.next old.at (old.received ++ answer_of links old.link (bind_message old.next name password))) new.at (links.coming new.link)
+
+-- where the directory is told, a bind with a reply leaves the client settled, behind as many bytes as are told
+abbrev pub BindGoesOn : {L : Type 0} → Links L → Talk L → List ℕ → List ℕ → Bound → Talk L → Type 0
+BindGoesOn links old name password result new =
+    OverTold links old (λ behind. HasReply result → GoesOn old new (links.coming new.link) (bind_reply_size behind old.next name password))
+
+-- where the directory is told, a bind that was sent fails with the link and no byte to come only as told
+abbrev pub BindEnds : {L : Type 0} → Links L → Talk L → List ℕ → List ℕ → Bound → Talk L → Type 0
+BindEnds links old name password result new =
+    OverTold links old
+    (λ behind. new.next ≡ old.next + 1 → links.coming new.link ≡ Some [] → result ≡ bounds.Failed whys.Link → told_bind behind (length old.received) old.next name password ≡ failed whys.Link)

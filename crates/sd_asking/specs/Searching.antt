@@ -1,5 +1,5 @@
 -- What a search comes to over a link that tells the directory behind it.
-use Rattle.std.specs.Prelude.{◌≡◌, ◌≢◌, ℕ, ◌==◌, if◌then◌else◌, List, [], map, Option, Some, None}
+use Rattle.std.specs.Prelude.{◌≡◌, ◌≢◌, ℕ, ◌+◌, ◌==◌, if◌then◌else◌, List, [], ◌++◌, map, length, Option, Some, None}
 use Rattle.std.specs.List.{list_any}
 use Rattle.sd_base.specs.declared.Why.{Why}
 use Rattle.sd_base.specs.declared.Why.TheVariants as whys
@@ -10,10 +10,12 @@ use Rattle.sd_match.specs.Answering.{is_at_or_under, found, sent, search_code, s
 use Rattle.sd_dial.specs.Entries.{Behind}
 use Rattle.sd_dial.specs.declared.searched.Searched.{Searched}
 use Rattle.sd_dial.specs.declared.searched.Searched.TheVariants as searches
-use Rattle.sd_client.specs.Deciding.{Decision, ended}
-use Rattle.sd_client.specs.Talk.{search_message, without_entries}
+use Rattle.sd_client.specs.declared.step.Request.TheVariants as requests
+use Rattle.sd_client.specs.Deciding.{Decision, ended, decided}
+use Rattle.sd_client.specs.Links.{Links, answer_of}
+use Rattle.sd_client.specs.Talk.{Talk, search_message, without_entries}
 use Rattle.sd_asking.specs.Sizes.{content_size, is_too_long, total_size, first_limit}
-use Rattle.sd_asking.specs.Settled.{IsFailedBy}
+use Rattle.sd_asking.specs.Settled.{GoesOn, IsFailedBy, OverTold}
 
 -- the entries as they were sent, where the code is 0; another code; a failure
 pub data ToldReply : Type 0 where
@@ -84,3 +86,19 @@ IsSearchedBy (searches.Entries found) decision at coming = decision ≡ ended fo
 IsSearchedBy (searches.Code result) decision at coming = (result ≢ 0) × (without_entries decision ≡ ended [] result at)
 IsSearchedBy (searches.Failed why) decision at coming = IsFailedBy why decision coming
 IsSearchedBy searches.Memory decision at coming = Unit {0}
+
+-- a search came to what all bytes that answer it decide
+abbrev pub IsSearchedByAnswer : {L : Type 0} → Links L → Talk L → SearchValue → Searched → Talk L → Type 0
+IsSearchedByAnswer links old s result new =
+    IsSearchedBy result (decided requests.Search old.next old.at (old.received ++ answer_of links old.link (search_message old.next s))) new.at (links.coming new.link)
+
+-- where the directory is told, a search with a reply leaves the client settled, behind as many bytes as are told
+abbrev pub SearchGoesOn : {L : Type 0} → Links L → Talk L → SearchValue → Searched → Talk L → Type 0
+SearchGoesOn links old s result new =
+    OverTold links old (λ behind. HasReply result → GoesOn old new (links.coming new.link) (search_reply_size behind old.next s))
+
+-- where the directory is told, a search that was sent fails with the link and no byte to come only as told
+abbrev pub SearchEnds : {L : Type 0} → Links L → Talk L → SearchValue → Searched → Talk L → Type 0
+SearchEnds links old s result new =
+    OverTold links old
+    (λ behind. new.next ≡ old.next + 1 → links.coming new.link ≡ Some [] → result ≡ searches.Failed whys.Link → told_search behind (length old.received) old.next s ≡ failed whys.Link)

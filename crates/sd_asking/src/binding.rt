@@ -1,15 +1,10 @@
 //! Binds.
-ghost use Rattle.std.specs.Prelude.{◌≡◌, ℕ, ◌+◌, ◌≤◌, ◌<◌, List, [], ◌++◌, ◌⊎◌, length, IfSome, Some, None};
+ghost use Rattle.std.specs.Prelude.{◌≡◌, ◌+◌, ◌≤◌, ◌⊎◌, length, IfSome, None};
 ghost use Rattle.sd_base.specs.Causes.{Rose};
-ghost use Rattle.sd_ldap.specs.Spelling.{message_bytes};
-ghost use Rattle.sd_dial.specs.Entries.{Behind};
-ghost use Rattle.sd_client.specs.declared.step.Request.TheVariants as requests;
-ghost use Rattle.sd_client.specs.Deciding.{decided};
-ghost use Rattle.sd_client.specs.Replying.{IsUnsent, IsSent};
-ghost use Rattle.sd_client.specs.Talk.{bind_message, IsBound, IsUnbound, IsPlacedByBind, failure_by_bind};
-ghost use Rattle.sd_asking.specs.Settled.{IsSettled, GoesOn};
-ghost use Rattle.sd_asking.specs.Binding.{ToldBound, told_bind, bind_reply_size, IsToldBind, HasReply, IsBoundBy};
-ghost use Rattle.sd_asking.specs.Binding as told;
+ghost use Rattle.sd_client.specs.Talk.{bind_message, IsUnbound, IsPlacedByBind, failure_by_bind};
+ghost use Rattle.sd_client.specs.Calls.{AsksNothing, Asks, IsBindReply};
+ghost use Rattle.sd_asking.specs.Settled.{IsSettledOver, OverTold, LinkFails, SettlesAgain};
+ghost use Rattle.sd_asking.specs.Binding.{told_bind, IsToldBind, HasReply, IsBoundByAnswer, BindGoesOn, BindEnds};
 
 use sd_base::{Text, Why};
 use sd_client::Client;
@@ -21,10 +16,10 @@ use sd_rules::Bound;
 pub fn bind<L: DirectoryLink>(client: &mut Client<L>, dn: &Text, password: &Text) -> Bound
     ensures again { IfSome client.old.failed (λ why. (result ≡ Bound.Failed why) × (client.new ≡ client.old)) }
     ensures used { (client.new.next ≡ client.old.next) ⊎ (client.new.next ≡ client.old.next + 1) }
-    ensures unsent { client.new.next ≡ client.old.next → IsUnsent (L.sent client.old.link) (L.sent client.new.link) (L.asked client.old.link) (L.asked client.new.link) (L.received client.old.link) (L.received client.new.link) (L.coming client.old.link) (L.coming client.new.link) client.old.received client.new.received }
+    ensures unsent { client.new.next ≡ client.old.next → AsksNothing L.DirectoryLink client.old client.new }
     ensures no_reply { client.old.failed ≡ None → client.new.next ≡ client.old.next → IsUnbound result (Rose (L.faults client.old.link) (L.faults client.new.link) × L.refuses client.new.link) }
-    ensures sent { client.new.next ≡ client.old.next + 1 → IsSent (bind_message client.old.next dn.now password.now) (L.answer client.old.link (message_bytes (bind_message client.old.next dn.now password.now))) (L.sent client.old.link) (L.sent client.new.link) (L.asked client.old.link) (L.asked client.new.link) (L.received client.old.link) (L.received client.new.link) (L.coming client.old.link) (L.coming client.new.link) client.old.received client.new.received }
-    ensures reply { client.new.next ≡ client.old.next + 1 → IsBound result (decided requests.Bind client.old.next client.old.at client.new.received) client.new.at (Rose (L.faults client.old.link) (L.faults client.new.link) × L.ends client.new.link) }
+    ensures sent { client.new.next ≡ client.old.next + 1 → Asks L.DirectoryLink (bind_message client.old.next dn.now password.now) client.old client.new }
+    ensures reply { client.new.next ≡ client.old.next + 1 → IsBindReply L.DirectoryLink client.old result client.new }
     ensures fails { client.old.failed ≡ None → client.new.failed ≡ failure_by_bind result }
     ensures placed { client.old.failed ≡ None → IsPlacedByBind result client.old.at client.new.at }
     ensures within { client.new.at ≤ length client.new.received }
@@ -33,15 +28,15 @@ pub fn bind<L: DirectoryLink>(client: &mut Client<L>, dn: &Text, password: &Text
     ensures behind { L.behind client.new.link ≡ L.behind client.old.link }
     ensures later { L.faults client.old.link ≤ L.faults client.new.link }
     // A failure of the link has its cause, before the request was sent or behind it.
-    ensures cause { client.old.failed ≡ None → result ≡ Bound.Failed Why.Link → Rose (L.faults client.old.link) (L.faults client.new.link) × (((client.new.next ≡ client.old.next) × L.refuses client.new.link) ⊎ ((client.new.next ≡ client.old.next + 1) × L.ends client.new.link)) }
+    ensures cause { client.old.failed ≡ None → result ≡ Bound.Failed Why.Link → LinkFails L.DirectoryLink client.old client.new }
     // A link that tells the bytes to come: the bytes that answer the request decide.
-    ensures answered { IsSettled client.old (L.coming client.old.link) → client.new.next ≡ client.old.next + 1 → IsBoundBy result (decided requests.Bind client.old.next client.old.at (client.old.received ++ L.answer client.old.link (message_bytes (bind_message client.old.next dn.now password.now)))) client.new.at (L.coming client.new.link) }
+    ensures answered { IsSettledOver L.DirectoryLink client.old → client.new.next ≡ client.old.next + 1 → IsBoundByAnswer L.DirectoryLink client.old dn.now password.now result client.new }
     // Where all these bytes are the reply, the client is settled again.
-    ensures settles { IsSettled client.old (L.coming client.old.link) → HasReply result → client.new.at ≡ length client.old.received + length (L.answer client.old.link (message_bytes (bind_message client.old.next dn.now password.now))) → length client.old.received + length (L.answer client.old.link (message_bytes (bind_message client.old.next dn.now password.now))) ≤ 67108864 → GoesOn client.old client.new (L.coming client.new.link) (length (L.answer client.old.link (message_bytes (bind_message client.old.next dn.now password.now)))) }
+    ensures settles { IsSettledOver L.DirectoryLink client.old → HasReply result → SettlesAgain L.DirectoryLink (bind_message client.old.next dn.now password.now) client.old client.new }
     // A link that tells the directory behind it: its entries decide.
-    ensures told { (behind : Behind) → L.behind client.old.link ≡ Some behind → IsSettled client.old (L.coming client.old.link) → IsToldBind result (told_bind behind (length client.old.received) client.old.next dn.now password.now) }
-    ensures goes_on { (behind : Behind) → L.behind client.old.link ≡ Some behind → IsSettled client.old (L.coming client.old.link) → HasReply result → GoesOn client.old client.new (L.coming client.new.link) (bind_reply_size behind client.old.next dn.now password.now) }
-    ensures ends { (behind : Behind) → L.behind client.old.link ≡ Some behind → IsSettled client.old (L.coming client.old.link) → client.new.next ≡ client.old.next + 1 → L.coming client.new.link ≡ Some [] → result ≡ Bound.Failed Why.Link → told_bind behind (length client.old.received) client.old.next dn.now password.now ≡ told.failed Why.Link }
+    ensures told { OverTold L.DirectoryLink client.old (λ behind. IsToldBind result (told_bind behind (length client.old.received) client.old.next dn.now password.now)) }
+    ensures goes_on { BindGoesOn L.DirectoryLink client.old dn.now password.now result client.new }
+    ensures ends { BindEnds L.DirectoryLink client.old dn.now password.now result client.new }
 {
     client.bind(dn, password)
 }

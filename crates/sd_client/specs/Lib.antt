@@ -5,4 +5,6 @@ pub mod Reading
 pub mod Law
 pub mod Coming
 pub mod Replying
+pub mod Links
 pub mod Talk
+pub mod Calls

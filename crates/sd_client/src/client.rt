@@ -6,10 +6,10 @@ ghost use Rattle.sd_ldap.specs.Spelling.{message_bytes};
 ghost use Rattle.sd_ldap.specs.Sound.{IsSoundSearch};
 ghost use Rattle.sd_link.specs.Told.{with_piece};
 ghost use Rattle.sd_dial.specs.Asked.{with_message};
-ghost use Rattle.sd_client.specs.Deciding.{decided};
 ghost use Rattle.sd_client.specs.Law.{StaysDecided};
-ghost use Rattle.sd_client.specs.Replying.{IsUnsent, IsSent};
-ghost use Rattle.sd_client.specs.Talk.{search_message, bind_message, unbind_message, IsSearched, IsBound, IsUnsearched, IsUnbound, IsPlacedBySearch, IsPlacedByBind, failure_by_search, failure_by_bind};
+ghost use Rattle.sd_client.specs.Links.{SendsOrFails};
+ghost use Rattle.sd_client.specs.Calls.{AsksNothing, Asks, IsSearchReply, IsBindReply};
+ghost use Rattle.sd_client.specs.Talk.{search_message, bind_message, unbind_message, IsUnsearched, IsUnbound, IsPlacedBySearch, IsPlacedByBind, failure_by_search, failure_by_bind};
 
 use crate::buffer::Buffer;
 use crate::copying::copy_request;
@@ -85,11 +85,11 @@ impl<L: DirectoryLink> Client<L> {
         ensures again { IfSome self.old.failed (λ why. (result ≡ Searched.Failed why) × (self.new ≡ self.old)) }
         ensures used { (self.new.next ≡ self.old.next) ⊎ (self.new.next ≡ self.old.next + 1) }
         // A request that was not sent: nothing came of it but the link's failure or want of memory.
-        ensures unsent { self.new.next ≡ self.old.next → IsUnsent (L.sent self.old.link) (L.sent self.new.link) (L.asked self.old.link) (L.asked self.new.link) (L.received self.old.link) (L.received self.new.link) (L.coming self.old.link) (L.coming self.new.link) self.old.received self.new.received }
+        ensures unsent { self.new.next ≡ self.old.next → AsksNothing L.DirectoryLink self.old self.new }
         ensures no_reply { self.old.failed ≡ None → self.new.next ≡ self.old.next → IsUnsearched result (Rose (L.faults self.old.link) (L.faults self.new.link) × L.refuses self.new.link) }
         // A request that was sent: the bytes received decide.
-        ensures sent { self.new.next ≡ self.old.next + 1 → IsSent (search_message self.old.next (search_value request.now)) (L.answer self.old.link (message_bytes (search_message self.old.next (search_value request.now)))) (L.sent self.old.link) (L.sent self.new.link) (L.asked self.old.link) (L.asked self.new.link) (L.received self.old.link) (L.received self.new.link) (L.coming self.old.link) (L.coming self.new.link) self.old.received self.new.received }
-        ensures reply { self.new.next ≡ self.old.next + 1 → IsSearched result (decided Request.Search self.old.next self.old.at self.new.received) self.new.at (Rose (L.faults self.old.link) (L.faults self.new.link) × L.ends self.new.link) }
+        ensures sent { self.new.next ≡ self.old.next + 1 → Asks L.DirectoryLink (search_message self.old.next (search_value request.now)) self.old self.new }
+        ensures reply { self.new.next ≡ self.old.next + 1 → IsSearchReply L.DirectoryLink self.old result self.new }
         ensures fails { self.old.failed ≡ None → self.new.failed ≡ failure_by_search result }
         ensures placed { self.old.failed ≡ None → IsPlacedBySearch result self.old.at self.new.at }
         ensures within { self.new.at ≤ length self.new.received }
@@ -126,11 +126,11 @@ impl<L: DirectoryLink> Client<L> {
         ensures again { IfSome self.old.failed (λ why. (result ≡ Bound.Failed why) × (self.new ≡ self.old)) }
         ensures used { (self.new.next ≡ self.old.next) ⊎ (self.new.next ≡ self.old.next + 1) }
         // A request that was not sent: nothing came of it but the link's failure or want of memory.
-        ensures unsent { self.new.next ≡ self.old.next → IsUnsent (L.sent self.old.link) (L.sent self.new.link) (L.asked self.old.link) (L.asked self.new.link) (L.received self.old.link) (L.received self.new.link) (L.coming self.old.link) (L.coming self.new.link) self.old.received self.new.received }
+        ensures unsent { self.new.next ≡ self.old.next → AsksNothing L.DirectoryLink self.old self.new }
         ensures no_reply { self.old.failed ≡ None → self.new.next ≡ self.old.next → IsUnbound result (Rose (L.faults self.old.link) (L.faults self.new.link) × L.refuses self.new.link) }
         // A request that was sent: the bytes received decide.
-        ensures sent { self.new.next ≡ self.old.next + 1 → IsSent (bind_message self.old.next dn.now password.now) (L.answer self.old.link (message_bytes (bind_message self.old.next dn.now password.now))) (L.sent self.old.link) (L.sent self.new.link) (L.asked self.old.link) (L.asked self.new.link) (L.received self.old.link) (L.received self.new.link) (L.coming self.old.link) (L.coming self.new.link) self.old.received self.new.received }
-        ensures reply { self.new.next ≡ self.old.next + 1 → IsBound result (decided Request.Bind self.old.next self.old.at self.new.received) self.new.at (Rose (L.faults self.old.link) (L.faults self.new.link) × L.ends self.new.link) }
+        ensures sent { self.new.next ≡ self.old.next + 1 → Asks L.DirectoryLink (bind_message self.old.next dn.now password.now) self.old self.new }
+        ensures reply { self.new.next ≡ self.old.next + 1 → IsBindReply L.DirectoryLink self.old result self.new }
         ensures fails { self.old.failed ≡ None → self.new.failed ≡ failure_by_bind result }
         ensures placed { self.old.failed ≡ None → IsPlacedByBind result self.old.at self.new.at }
         ensures within { self.new.at ≤ length self.new.received }
@@ -164,7 +164,7 @@ impl<L: DirectoryLink> Client<L> {
     /// Gives the link back, with an unbind sent (RFC 4511 section 4.3) where the client has not failed.
     pub fn end(self) -> L
         ensures failed { (self.failed ≡ None → ⊥) → result ≡ self.link }
-        ensures unbinds { self.failed ≡ None → ((L.sent result ≡ with_piece (L.sent self.link) (message_bytes (unbind_message self.next))) × (L.asked result ≡ with_message (L.asked self.link) (unbind_message self.next))) ⊎ (Rose (L.faults self.link) (L.faults result) × (L.sent result ≡ L.sent self.link) × (L.asked result ≡ L.asked self.link)) }
+        ensures unbinds { self.failed ≡ None → SendsOrFails L.DirectoryLink (unbind_message self.next) self.link result }
         ensures received { L.received result ≡ L.received self.link }
         ensures behind { L.behind result ≡ L.behind self.link }
         ensures later { L.faults self.link ≤ L.faults result }

@@ -9,7 +9,8 @@ ghost use Rattle.sd_link.specs.Told.{with_piece};
 ghost use Rattle.sd_dial.specs.Asked.{with_message};
 ghost use Rattle.sd_client.specs.Deciding.{decided};
 ghost use Rattle.sd_client.specs.Coming.{Comes};
-ghost use Rattle.sd_client.specs.Replying.{request_message, IsReply, IsNoReply, IsPlaced, IsUnsent, IsSent, failure_of};
+ghost use Rattle.sd_client.specs.Replying.{request_message, IsReply, IsNoReply, IsPlaced, failure_of};
+ghost use Rattle.sd_client.specs.Links.{SendsNothing, Sends};
 
 use crate::buffer::{Buffer, LIMIT, Received};
 use crate::reading::{Read, read_on};
@@ -165,9 +166,9 @@ pub fn exchange<L: DirectoryLink>(
     requires limited { length state.old.buffer ≤ 67108864 }
     requires next { state.old.next < 2147483647 }
     ensures used { (state.new.next ≡ state.old.next) ⊎ (state.new.next ≡ state.old.next + 1) }
-    ensures unsent { state.new.next ≡ state.old.next → IsUnsent (L.sent link.old) (L.sent link.new) (L.asked link.old) (L.asked link.new) (L.received link.old) (L.received link.new) (L.coming link.old) (L.coming link.new) state.old.buffer state.new.buffer }
+    ensures unsent { state.new.next ≡ state.old.next → SendsNothing L.DirectoryLink link.old link.new state.old.buffer state.new.buffer }
     ensures no_reply { state.new.next ≡ state.old.next → IsNoReply result (Rose (L.faults link.old) (L.faults link.new) × L.refuses link.new) }
-    ensures sent { state.new.next ≡ state.old.next + 1 → IsSent (request_message state.old.next (operation_value operation)) (L.answer link.old (message_bytes (request_message state.old.next (operation_value operation)))) (L.sent link.old) (L.sent link.new) (L.asked link.old) (L.asked link.new) (L.received link.old) (L.received link.new) (L.coming link.old) (L.coming link.new) state.old.buffer state.new.buffer }
+    ensures sent { state.new.next ≡ state.old.next + 1 → Sends L.DirectoryLink (request_message state.old.next (operation_value operation)) link.old link.new state.old.buffer state.new.buffer }
     ensures reply { state.new.next ≡ state.old.next + 1 → IsReply result (decided request state.old.next state.old.at state.new.buffer) state.new.at (Rose (L.faults link.old) (L.faults link.new) × L.ends link.new) }
     ensures fails { state.new.failed ≡ failure_of result }
     ensures placed { IsPlaced result state.old.at state.new.at }

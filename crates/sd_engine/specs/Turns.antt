@@ -2,6 +2,7 @@
 use Rattle.std.specs.Prelude.{◌≡◌, ℕ, ◌≤◌, ◌⊎◌, true, false, List, [], Option, Some, None}
 use Rattle.sd_base.specs.Causes.{Rose}
 use Rattle.sd_base.specs.declared.Why.TheVariants as whys
+use Rattle.sd_base.specs.declared.io.Sink as sinks
 use Rattle.sd_rules.specs.declared.keys.Key.{Key}
 use Rattle.sd_rules.specs.declared.events.Event.{Event}
 use Rattle.sd_rules.specs.declared.settings.Settings.{Settings}
@@ -17,6 +18,7 @@ use Rattle.sd_rules.specs.Scripts.{is_need_of_kind, is_out_of_memory, is_bind_ou
 use Rattle.sd_conf.specs.declared.config.Config.{Config}
 use Rattle.sd_dial.specs.Entries.{Behind}
 use Rattle.sd_dial.specs.Operations.{Operation}
+use Rattle.sd_dial.specs.declared.dialer.Dialer as dialers
 use Rattle.sd_asking.specs.Binding.{told_bind, IsToldBind}
 use Rattle.sd_fetch.specs.Lookup.{looked_up}
 use Rattle.sd_fetch.specs.Told.{searches_of, first_failure}
@@ -68,6 +70,10 @@ pub record Dialling : Type 0 where
   pub received : Option (List (List ℕ))
   pub faults : ℕ
   pub behind : ℕ → Option Behind
+
+-- what a dialer tells at a moment, where dialers of its kind tell this
+abbrev pub dialling_of : {D Line : Type 0} → dialers.Ghosts D Line → D → Dialling
+dialling_of t dialer = record { operations = t.operations dialer; received = t.received dialer; faults = t.faults dialer; behind = t.behind dialer }
 
 -- the lookup of a key at a server came to this
 pub record Fetches (config : Config) (key : Key) (server : ℕ) (fetched : Fetched) (d e : Dialling) : Type 0 where
@@ -167,6 +173,11 @@ abbrev pub GoesBy : List ℕ → Config → Turn → Need → Engine → Client 
 GoesBy pwfield config turn (needs.Say said) old client new held held' writes d e = Says turn pwfield said old client new held held' writes × (e ≡ d)
 GoesBy pwfield config turn need old client new held held' writes d e = Acts turn config need old client new d e × (held' ≡ held)
 
+-- the same over a sink and a dialer
+abbrev pub GoesOver : {W D Line : Type 0} → sinks.Ghosts W → dialers.Ghosts D Line → Config → Turn → Need → Engine → Client → Engine → W → W → D → D → Type 0
+GoesOver w t config turn need old client new sink sink' dialer dialer' =
+    GoesBy config.pwfield config turn need old client new (w.held sink) (w.held sink') (Rose (w.faults sink) (w.faults sink')) (dialling_of t dialer) (dialling_of t dialer')
+
 -- What a request in hand needs, where it is something to tell, is told; what the request leads goes on after that, also where the
 -- answer could not be written.
 abbrev pub ServesBy : List ℕ → Config → Turn → Need → Engine → Client → Engine → Option (List ℕ) → Option (List ℕ) → Type 0 → Dialling → Dialling → Type 0
@@ -176,6 +187,11 @@ ServesBy pwfield config turn need old client new held held' writes d e = Acts tu
 abbrev pub Serves : Config → Turn → Engine → Client → Engine → Option (List ℕ) → Option (List ℕ) → Type 0 → Dialling → Dialling → Type 0
 Serves config turn old client new held held' writes d e =
     ServesBy config.pwfield config turn (need_of client) old client new held held' writes d e ⊎ IsIdle turn old new held held' d e
+
+-- the same over a sink and a dialer
+abbrev pub ServesOver : {W D Line : Type 0} → sinks.Ghosts W → dialers.Ghosts D Line → Config → Turn → Engine → Client → Engine → W → W → D → D → Type 0
+ServesOver w t config turn old client new sink sink' dialer dialer' =
+    Serves config turn old client new (w.held sink) (w.held sink') (Rose (w.faults sink) (w.faults sink')) (dialling_of t dialer) (dialling_of t dialer')
 
 -- an event that is named is one that the script of the request may need
 abbrev pub IsOfKind : Turn → Client → Type 0

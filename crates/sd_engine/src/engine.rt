@@ -214,7 +214,7 @@ impl Engine {
     ) -> Turn
         requires { courses.need_of client ≡ needs.Fetch server key.now }
         ensures kind { turns.IsOfKind result client }
-        ensures looks { turns.LooksUp result config.now server key.now self.old client self.new (record { operations = D.operations dialer.old; received = D.received dialer.old; faults = D.faults dialer.old; behind = D.behind dialer.old }) (record { operations = D.operations dialer.new; received = D.received dialer.new; faults = D.faults dialer.new; behind = D.behind dialer.new }) }
+        ensures looks { turns.LooksUp result config.now server key.now self.old client self.new (turns.dialling_of D.Dialer dialer.old) (turns.dialling_of D.Dialer dialer.new) }
     {
         let mut client = client;
         let fetched = fetch_at(self.alloc, dialer, gate, config, server, key);
@@ -239,7 +239,7 @@ impl Engine {
     ) -> Turn
         requires { courses.need_of client ≡ needs.Bind server dn.now password.now }
         ensures kind { turns.IsOfKind result client }
-        ensures binds { turns.BindsAt result server dn.now password.now self.old client self.new (record { operations = D.operations dialer.old; received = D.received dialer.old; faults = D.faults dialer.old; behind = D.behind dialer.old }) (record { operations = D.operations dialer.new; received = D.received dialer.new; faults = D.faults dialer.new; behind = D.behind dialer.new }) }
+        ensures binds { turns.BindsAt result server dn.now password.now self.old client self.new (turns.dialling_of D.Dialer dialer.old) (turns.dialling_of D.Dialer dialer.new) }
     {
         let mut client = client;
         let bound = bind_at(self.alloc, dialer, gate, server, dn, password);
@@ -296,7 +296,7 @@ impl Engine {
     ) -> Turn
         requires need { is_saying need ≡ false → courses.need_of client ≡ need }
         requires kind { is_saying need ≡ false → is_need_of_kind (key_at (courses.script_at client)) need ≡ true }
-        ensures goes { turns.GoesBy config.now.pwfield config.now result need self.old client self.new (W.held sink.old) (W.held sink.new) (Rose (W.faults sink.old) (W.faults sink.new)) (record { operations = D.operations dialer.old; received = D.received dialer.old; faults = D.faults dialer.old; behind = D.behind dialer.old }) (record { operations = D.operations dialer.new; received = D.received dialer.new; faults = D.faults dialer.new; behind = D.behind dialer.new }) }
+        ensures goes { turns.GoesOver W.Sink D.Dialer config.now result need self.old client self.new sink.old sink.new dialer.old dialer.new }
         ensures kind { turns.IsOfKind result client }
         ensures later { W.faults sink.old ≤ W.faults sink.new }
     {
@@ -324,7 +324,7 @@ impl Engine {
         dialer: &mut D,
         gate: &G,
     ) -> Turn
-        ensures serves { turns.Serves config.now result self.old client self.new (W.held sink.old) (W.held sink.new) (Rose (W.faults sink.old) (W.faults sink.new)) (record { operations = D.operations dialer.old; received = D.received dialer.old; faults = D.faults dialer.old; behind = D.behind dialer.old }) (record { operations = D.operations dialer.new; received = D.received dialer.new; faults = D.faults dialer.new; behind = D.behind dialer.new }) }
+        ensures serves { turns.ServesOver W.Sink D.Dialer config.now result self.old client self.new sink.old sink.new dialer.old dialer.new }
         ensures kind { turns.IsOfKind result client }
         ensures later { W.faults sink.old ≤ W.faults sink.new }
     {
@@ -353,7 +353,7 @@ impl Engine {
         ensures hears { self.old.client ≡ None → turns.Hears salts.now config.now.settings result self.old self.new (S.left source.old) (S.left source.new) (Rose (S.faults source.old) (S.faults source.new)) }
         ensures mute { self.old.client ≡ None → (sink.new ≡ sink.old) × (dialer.new ≡ dialer.old) }
         // With one in hand, what it needs is named or done.
-        ensures serves { IfSome self.old.client (λ client. turns.Serves config.now result (engines.done self.old) client self.new (W.held sink.old) (W.held sink.new) (Rose (W.faults sink.old) (W.faults sink.new)) (record { operations = D.operations dialer.old; received = D.received dialer.old; faults = D.faults dialer.old; behind = D.behind dialer.old }) (record { operations = D.operations dialer.new; received = D.received dialer.new; faults = D.faults dialer.new; behind = D.behind dialer.new })) }
+        ensures serves { IfSome self.old.client (λ client. turns.ServesOver W.Sink D.Dialer config.now result (engines.done self.old) client self.new sink.old sink.new dialer.old dialer.new) }
         ensures kind { IfSome self.old.client (λ client. turns.IsOfKind result client) }
         ensures deaf { IsSome self.old.client → source.new ≡ source.old }
         ensures reads_later { S.faults source.old ≤ S.faults source.new }

@@ -12,6 +12,7 @@ use Rattle.sd_dial.specs.declared.searched.Searched.{Searched}
 use Rattle.sd_dial.specs.declared.searched.Searched.TheVariants as searches
 use Rattle.sd_client.specs.declared.step.Request.TheVariants as requests
 use Rattle.sd_client.specs.Deciding.{decided}
+use Rattle.sd_client.specs.Links.{Links}
 use Rattle.sd_client.specs.Replying.{IsUnsent, IsSent}
 use Rattle.sd_client.specs.Talk.{Talk, search_message, IsSearched, IsUnsearched, failure_by_search}
 use Rattle.sd_asking.specs.Settled.{IsSettled, GoesOn}
@@ -30,10 +31,28 @@ pub record Telling (L : Type 0) : Type 1 where
   pub refuses : L → Type 0
   pub ends : L → Type 0
 
+-- the same, by what a clause has as L.DirectoryLink
+abbrev pub telling : {L : Type 0} → Links L → Telling L
+telling links = record {
+  sent = links.sent;
+  asked = links.asked;
+  received = links.received;
+  coming = links.coming;
+  answer = links.answer;
+  behind = links.behind;
+  faults = links.faults;
+  refuses = links.refuses;
+  ends = links.ends;
+}
+
 -- a search, and what it came to
 pub record Exchange : Type 0 where
   pub search : SearchValue
   pub searched : Searched
+
+-- a search that came to this
+abbrev pub searched_as : SearchValue → Searched → Exchange
+searched_as search searched = record { search = search; searched = searched }
 
 abbrev pub request_of : {L : Type 0} → Talk L → Exchange → MessageValue
 request_of old x = search_message old.next x.search

@@ -81,6 +81,14 @@ members_in config entries group = members_under (spelled config.base) entries co
 abbrev pub groups_in : Config → List DirEntry → DirEntry → List GroupRef
 groups_in config entries user = groups_of_user (at_or_under config.base entries) config.level user.dn
 
+-- a group as its entry says, with its members in a directory
+abbrev pub group_with_members : Config → Key → List DirEntry → DirEntry → Fetched
+group_with_members config key entries e = found_from (with_members (members_in config entries e)) (group_of config key e)
+
+-- a user as its entry says, with its groups in a directory
+abbrev pub user_with_groups : Config → Key → List DirEntry → DirEntry → Fetched
+user_with_groups config key entries e = found_from (with_groups (groups_in config entries e)) (user_of config key e)
+
 abbrev pub found_as : Config → Key → List DirEntry → DirEntry → Fetched
 found_as config (keys.User name) entries e = found_from records.User (user_of config (keys.User name) e)
 found_as config (keys.Uid uid) entries e = found_from records.User (user_of config (keys.Uid uid) e)

@@ -2,7 +2,7 @@
 ghost use Rattle.std.specs.Prelude.{◌≡◌, ℕ, IfOk};
 ghost use Rattle.sd_ldap.specs.Values.{search_value};
 ghost use Rattle.sd_ldap.specs.Sound.{IsSoundSearch};
-ghost use Rattle.sd_fetch.specs.Exchanging.{Telling, Exchange, Went};
+ghost use Rattle.sd_fetch.specs.Exchanging.{telling, searched_as, Went};
 ghost use Rattle.sd_fetch.specs.Early.{Finds, Asked};
 
 use sd_asking::search;
@@ -51,7 +51,7 @@ fn entries_of(alloc: Global, searched: Searched) -> Result<DirEntries, Early>
 /// Searches once.
 pub fn ask<L: DirectoryLink>(client: &mut Client<L>, request: &SearchRequest) -> Searched
     requires { IsSoundSearch (search_value request.now) }
-    ensures went { Went (record { sent = L.sent; asked = L.asked; received = L.received; coming = L.coming; answer = L.answer; behind = L.behind; faults = L.faults; refuses = L.refuses; ends = L.ends }) client.old (record { search = search_value request.now; searched = result }) client.new }
+    ensures went { Went (telling L.DirectoryLink) client.old (searched_as (search_value request.now) result) client.new }
 {
     search(client, request)
 }
@@ -64,7 +64,7 @@ pub fn find<L: DirectoryLink>(
     request: &SearchRequest,
 ) -> Result<DirEntries, Early>
     requires { IsSoundSearch (search_value request.now) }
-    ensures { Asked (record { sent = L.sent; asked = L.asked; received = L.received; coming = L.coming; answer = L.answer; behind = L.behind; faults = L.faults; refuses = L.refuses; ends = L.ends }) client.old (search_value request.now) result client.new }
+    ensures { Asked (telling L.DirectoryLink) client.old (search_value request.now) result client.new }
 {
     let searched = ask(client, request);
     entries_of(alloc, searched)

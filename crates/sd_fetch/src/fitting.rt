@@ -3,7 +3,7 @@ ghost use Rattle.std.specs.Prelude.{◌≡◌, ◌++◌, ℕ, List, map, filter,
 ghost use Rattle.sd_rules.specs.declared.records.Record.TheVariants as records;
 ghost use Rattle.sd_fetch.specs.Lookup.{is_fit, user_of, group_of, host_of, rule_of, service_of, fits, found_from, with_members, with_groups, listed};
 
-use sd_base::{Memory, Texts};
+use sd_base::{Memory, Shared, Texts};
 use sd_conf::Config;
 use sd_ldap::DirEntry;
 use sd_rules::{Fetched, GroupRefs, Groups, Key, Record, RuleList, ServiceList};
@@ -72,6 +72,13 @@ pub fn fitting<'a>(
     Ok(those)
 }
 
+/// A record, as it is handed on.
+pub fn found_record(alloc: Global, found: Record) -> Result<Fetched, Memory>
+    ensures { IfOk result (λ fetched. fetched ≡ Fetched.Found found) }
+{
+    Ok(Fetched::Found(Shared::new(alloc, found)?))
+}
+
 /// A user by an entry.
 pub fn user_found(
     alloc: Global,
@@ -82,7 +89,7 @@ pub fn user_found(
     ensures { IfOk result (λ fetched. fetched ≡ found_from records.User (user_of config.now key.now entry.now)) }
 {
     match user(alloc, entry, key, config) {
-        Ok(found) => Ok(Fetched::Found(Record::User(found))),
+        Ok(found) => found_record(alloc, Record::User(found)),
         Err(Unfit::Attribute(_)) => Ok(Fetched::Absent),
         Err(Unfit::Memory) => Err(Memory),
     }
@@ -101,7 +108,7 @@ pub fn group_found(
     match group(alloc, entry, key, config) {
         Ok(mut found) => {
             found.members = members;
-            Ok(Fetched::Found(Record::Group(found)))
+            found_record(alloc, Record::Group(found))
         }
         Err(Unfit::Attribute(_)) => Ok(Fetched::Absent),
         Err(Unfit::Memory) => Err(Memory),
@@ -119,10 +126,13 @@ pub fn groups_found(
     ensures { IfOk result (λ fetched. fetched ≡ found_from (with_groups groups) (user_of config.now key.now entry.now)) }
 {
     match user(alloc, entry, key, config) {
-        Ok(found) => Ok(Fetched::Found(Record::Groups(Groups {
-            user: found.name,
-            groups,
-        }))),
+        Ok(found) => found_record(
+            alloc,
+            Record::Groups(Groups {
+                user: found.name,
+                groups,
+            }),
+        ),
         Err(Unfit::Attribute(_)) => Ok(Fetched::Absent),
         Err(Unfit::Memory) => Err(Memory),
     }
@@ -133,7 +143,7 @@ pub fn host_found(alloc: Global, entry: &DirEntry, config: &Config) -> Result<Fe
     ensures { IfOk result (λ fetched. fetched ≡ found_from records.Host (host_of config.now entry.now)) }
 {
     match host(alloc, entry, config) {
-        Ok(found) => Ok(Fetched::Found(Record::Host(found))),
+        Ok(found) => found_record(alloc, Record::Host(found)),
         Err(Unfit::Attribute(_)) => Ok(Fetched::Absent),
         Err(Unfit::Memory) => Err(Memory),
     }

@@ -1,15 +1,12 @@
 //! What an entry that fits is found as, with what nested groups say of it.
-ghost use Rattle.std.specs.Prelude.{◌≡◌, ℕ, List, [], true, map, filter, IfOk, Some, None};
+ghost use Rattle.std.specs.Prelude.{◌≡◌, ℕ, List, true, IfOk};
 ghost use Rattle.sd_dn.specs.Reading.{is_dn};
-ghost use Rattle.sd_dn.specs.Texts.{spelled};
-ghost use Rattle.sd_ldap.specs.declared.entry.DirEntry.{DirEntry};
 ghost use Rattle.sd_rules.specs.declared.records.GroupRef.{GroupRef};
-ghost use Rattle.sd_dial.specs.Entries.{Behind};
-ghost use Rattle.sd_asking.specs.Settled.{IsSettled};
-ghost use Rattle.sd_fetch.specs.Exchanging.{Telling};
+ghost use Rattle.sd_asking.specs.Settled.{OverTold};
+ghost use Rattle.sd_fetch.specs.Exchanging.{telling};
 ghost use Rattle.sd_fetch.specs.Rounding.{early_of};
 ghost use Rattle.sd_fetch.specs.Told.{reads_of, holders_of};
-ghost use Rattle.sd_fetch.specs.Lookup.{members_in, groups_in, found_as, found_from, with_members, with_groups, user_of, group_of};
+ghost use Rattle.sd_fetch.specs.Lookup.{members_in, groups_in, group_with_members, user_with_groups, found_as, found_from, with_members, with_groups, user_of, group_of};
 ghost use Rattle.sd_fetch.specs.Looked.{IsFoundAs};
 ghost use Rattle.sd_fetch.specs.Further.{Further, further_of};
 
@@ -33,8 +30,8 @@ fn members_of<L: DirectoryLink>(
     config: &Config,
     group: &DirEntry,
 ) -> Result<Texts, Early>
-    ensures further { Further (record { sent = L.sent; asked = L.asked; received = L.received; coming = L.coming; answer = L.answer; behind = L.behind; faults = L.faults; refuses = L.refuses; ends = L.ends }) client.old client.new (early_of result) (λ told. reads_of config.now told group.now) }
-    ensures members { (b : Behind) → L.behind client.old.link ≡ Some b → IsSettled client.old (L.coming client.old.link) → IfOk result (λ names. names ≡ members_in config.now b.entries group.now) }
+    ensures further { Further (telling L.DirectoryLink) client.old client.new (early_of result) (λ told. reads_of config.now told group.now) }
+    ensures members { OverTold L.DirectoryLink client.old (λ b. IfOk result (λ names. names ≡ members_in config.now b.entries group.now)) }
 {
     match spelled(alloc, config.base.bytes())? {
         Some(base) => read_members(alloc, client, config, &base, group),
@@ -50,8 +47,8 @@ fn groups_of<L: DirectoryLink>(
     config: &Config,
     user: &DirEntry,
 ) -> Result<GroupRefs, Early>
-    ensures further { Further (record { sent = L.sent; asked = L.asked; received = L.received; coming = L.coming; answer = L.answer; behind = L.behind; faults = L.faults; refuses = L.refuses; ends = L.ends }) client.old client.new (early_of result) (λ told. holders_of config.now told user.now) }
-    ensures groups { (b : Behind) → L.behind client.old.link ≡ Some b → IsSettled client.old (L.coming client.old.link) → is_dn user.now.dn ≡ true → IfOk result (λ groups. groups ≡ groups_in config.now b.entries user.now) }
+    ensures further { Further (telling L.DirectoryLink) client.old client.new (early_of result) (λ told. holders_of config.now told user.now) }
+    ensures groups { OverTold L.DirectoryLink client.old (λ b. is_dn user.now.dn ≡ true → IfOk result (λ groups. groups ≡ groups_in config.now b.entries user.now)) }
 {
     read_groups(alloc, client, config, user)
 }
@@ -64,8 +61,8 @@ fn found_group<L: DirectoryLink>(
     config: &Config,
     entry: &DirEntry,
 ) -> Result<Fetched, Early>
-    ensures further { Further (record { sent = L.sent; asked = L.asked; received = L.received; coming = L.coming; answer = L.answer; behind = L.behind; faults = L.faults; refuses = L.refuses; ends = L.ends }) client.old client.new (early_of result) (λ told. reads_of config.now told entry.now) }
-    ensures found { (b : Behind) → L.behind client.old.link ≡ Some b → IsSettled client.old (L.coming client.old.link) → IfOk result (λ fetched. fetched ≡ found_from (with_members (members_in config.now b.entries entry.now)) (group_of config.now key.now entry.now)) }
+    ensures further { Further (telling L.DirectoryLink) client.old client.new (early_of result) (λ told. reads_of config.now told entry.now) }
+    ensures found { OverTold L.DirectoryLink client.old (λ b. IfOk result (λ fetched. fetched ≡ group_with_members config.now key.now b.entries entry.now)) }
     ensures some { IfOk result (λ fetched. (members : List (List ℕ)) × (fetched ≡ found_from (with_members members) (group_of config.now key.now entry.now))) }
 {
     let members = members_of(alloc, client, config, entry)?;
@@ -80,8 +77,8 @@ fn found_groups<L: DirectoryLink>(
     config: &Config,
     entry: &DirEntry,
 ) -> Result<Fetched, Early>
-    ensures further { Further (record { sent = L.sent; asked = L.asked; received = L.received; coming = L.coming; answer = L.answer; behind = L.behind; faults = L.faults; refuses = L.refuses; ends = L.ends }) client.old client.new (early_of result) (λ told. holders_of config.now told entry.now) }
-    ensures found { (b : Behind) → L.behind client.old.link ≡ Some b → IsSettled client.old (L.coming client.old.link) → is_dn entry.now.dn ≡ true → IfOk result (λ fetched. fetched ≡ found_from (with_groups (groups_in config.now b.entries entry.now)) (user_of config.now key.now entry.now)) }
+    ensures further { Further (telling L.DirectoryLink) client.old client.new (early_of result) (λ told. holders_of config.now told entry.now) }
+    ensures found { OverTold L.DirectoryLink client.old (λ b. is_dn entry.now.dn ≡ true → IfOk result (λ fetched. fetched ≡ user_with_groups config.now key.now b.entries entry.now)) }
     ensures some { IfOk result (λ fetched. (groups : List GroupRef) × (fetched ≡ found_from (with_groups groups) (user_of config.now key.now entry.now))) }
 {
     let groups = groups_of(alloc, client, config, entry)?;
@@ -96,8 +93,8 @@ pub fn found<L: DirectoryLink>(
     config: &Config,
     entry: &DirEntry,
 ) -> Result<Fetched, Early>
-    ensures further { Further (record { sent = L.sent; asked = L.asked; received = L.received; coming = L.coming; answer = L.answer; behind = L.behind; faults = L.faults; refuses = L.refuses; ends = L.ends }) client.old client.new (early_of result) (λ told. further_of config.now key.now entry.now told) }
-    ensures found { (b : Behind) → L.behind client.old.link ≡ Some b → IsSettled client.old (L.coming client.old.link) → is_dn entry.now.dn ≡ true → IfOk result (λ fetched. fetched ≡ found_as config.now key.now b.entries entry.now) }
+    ensures further { Further (telling L.DirectoryLink) client.old client.new (early_of result) (λ told. further_of config.now key.now entry.now told) }
+    ensures found { OverTold L.DirectoryLink client.old (λ b. is_dn entry.now.dn ≡ true → IfOk result (λ fetched. fetched ≡ found_as config.now key.now b.entries entry.now)) }
     ensures one { IfOk result (λ fetched. IsFoundAs config.now key.now entry.now fetched) }
 {
     match key {

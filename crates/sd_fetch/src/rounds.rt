@@ -1,14 +1,12 @@
 //! Nested groups, asked for over a client.
-ghost use Rattle.std.specs.Prelude.{◌≡◌, ℕ, true, false, map, IfOk, Some};
+ghost use Rattle.std.specs.Prelude.{◌≡◌, true, false, IfOk};
 ghost use Rattle.sd_dn.specs.Reading.{is_dn};
-ghost use Rattle.sd_dial.specs.Entries.{Behind};
-ghost use Rattle.sd_asking.specs.Settled.{IsSettled};
-ghost use Rattle.sd_nested.specs.Searches.{entry_at, holders_of};
-ghost use Rattle.sd_nested.specs.Rounds.{member_reads, holder_asks};
+ghost use Rattle.sd_asking.specs.Settled.{OverTold};
+ghost use Rattle.sd_nested.specs.Rounds.{member_questions, holder_questions};
 ghost use Rattle.sd_nested.specs.Paths.{at_or_under, members_of, groups_of_user};
 ghost use Rattle.sd_ldap.specs.Values.{search_value};
 ghost use Rattle.sd_ldap.specs.Sound.{IsSoundSearch};
-ghost use Rattle.sd_fetch.specs.Exchanging.{Telling, Exchange, Went, is_stop};
+ghost use Rattle.sd_fetch.specs.Exchanging.{telling, is_stop};
 ghost use Rattle.sd_fetch.specs.Rounding.{Tells, WentOn, IsEarly, Rounded, early_of};
 
 use crate::finding::{Early, ask};
@@ -45,11 +43,11 @@ fn ends_rounds(searched: &Searched) -> bool
 }
 
 impl<L: DirectoryLink> Searcher for Rounds<'_, L> {
-    ghost tells = { λ r told. Tells (record { sent = L.sent; asked = L.asked; received = L.received; coming = L.coming; answer = L.answer; behind = L.behind; faults = L.faults; refuses = L.refuses; ends = L.ends }) r.client.now r.is_stopped told };
+    ghost tells = { λ r told. Tells (telling L.DirectoryLink) r.client.now r.is_stopped told };
 
     ghost base = { λ r. r.base.now };
 
-    ghost went = { λ r x s. (s.client.ghost_name ≡ r.client.ghost_name) × (s.base.now ≡ r.base.now) × WentOn (record { sent = L.sent; asked = L.asked; received = L.received; coming = L.coming; answer = L.answer; behind = L.behind; faults = L.faults; refuses = L.refuses; ends = L.ends }) r.base.now r.client.now r.is_stopped x s.client.now s.is_stopped };
+    ghost went = { λ r x s. (s.client.ghost_name ≡ r.client.ghost_name) × (s.base.now ≡ r.base.now) × WentOn (telling L.DirectoryLink) r.base.now r.client.now r.is_stopped x s.client.now s.is_stopped };
 
     fn read(&mut self, dn: &Text) -> Searched {
         if self.is_stopped {
@@ -101,8 +99,8 @@ fn members_by<L: DirectoryLink>(
 ) -> Result<Texts, Early>
     requires { rounds.old.is_stopped ≡ false }
     ensures name { rounds.new.client.ghost_name ≡ rounds.old.client.ghost_name }
-    ensures rounded { Rounded (record { sent = L.sent; asked = L.asked; received = L.received; coming = L.coming; answer = L.answer; behind = L.behind; faults = L.faults; refuses = L.refuses; ends = L.ends }) rounds.old.base.now rounds.old.client.now rounds.new.client.now (early_of result) (λ told. map entry_at (member_reads told base.now level group.now)) }
-    ensures members { (b : Behind) → L.behind rounds.old.client.now.link ≡ Some b → IsSettled rounds.old.client.now (L.coming rounds.old.client.now.link) → IfOk result (λ names. names ≡ members_of b.entries base.now level group.now) }
+    ensures rounded { Rounded (telling L.DirectoryLink) rounds.old.base.now rounds.old.client.now rounds.new.client.now (early_of result) (λ told. member_questions told base.now level group.now) }
+    ensures members { OverTold L.DirectoryLink rounds.old.client.now (λ b. IfOk result (λ names. names ≡ members_of b.entries base.now level group.now)) }
 {
     match members(alloc, rounds, group, base, level) {
         Ok(names) => Ok(names),
@@ -118,8 +116,8 @@ pub fn read_members<L: DirectoryLink>(
     base: &Dn,
     group: &DirEntry,
 ) -> Result<Texts, Early>
-    ensures rounded { Rounded (record { sent = L.sent; asked = L.asked; received = L.received; coming = L.coming; answer = L.answer; behind = L.behind; faults = L.faults; refuses = L.refuses; ends = L.ends }) config.now.base client.old client.new (early_of result) (λ told. map entry_at (member_reads told base.now config.now.level group.now)) }
-    ensures members { (b : Behind) → L.behind client.old.link ≡ Some b → IsSettled client.old (L.coming client.old.link) → IfOk result (λ names. names ≡ members_of b.entries base.now config.now.level group.now) }
+    ensures rounded { Rounded (telling L.DirectoryLink) config.now.base client.old client.new (early_of result) (λ told. member_questions told base.now config.now.level group.now) }
+    ensures members { OverTold L.DirectoryLink client.old (λ b. IfOk result (λ names. names ≡ members_of b.entries base.now config.now.level group.now)) }
 {
     let mut rounds = Rounds {
         alloc,
@@ -139,8 +137,8 @@ fn groups_by<L: DirectoryLink>(
 ) -> Result<GroupRefs, Early>
     requires { rounds.old.is_stopped ≡ false }
     ensures name { rounds.new.client.ghost_name ≡ rounds.old.client.ghost_name }
-    ensures rounded { Rounded (record { sent = L.sent; asked = L.asked; received = L.received; coming = L.coming; answer = L.answer; behind = L.behind; faults = L.faults; refuses = L.refuses; ends = L.ends }) rounds.old.base.now rounds.old.client.now rounds.new.client.now (early_of result) (λ told. map holders_of (holder_asks told rounds.old.base.now level user.now.dn)) }
-    ensures groups { (b : Behind) → L.behind rounds.old.client.now.link ≡ Some b → IsSettled rounds.old.client.now (L.coming rounds.old.client.now.link) → is_dn user.now.dn ≡ true → IfOk result (λ groups. groups ≡ groups_of_user (at_or_under rounds.old.base.now b.entries) level user.now.dn) }
+    ensures rounded { Rounded (telling L.DirectoryLink) rounds.old.base.now rounds.old.client.now rounds.new.client.now (early_of result) (λ told. holder_questions told rounds.old.base.now level user.now.dn) }
+    ensures groups { OverTold L.DirectoryLink rounds.old.client.now (λ b. is_dn user.now.dn ≡ true → IfOk result (λ groups. groups ≡ groups_of_user (at_or_under rounds.old.base.now b.entries) level user.now.dn)) }
 {
     match groups_of(alloc, rounds, user, level) {
         Ok(groups) => Ok(groups),
@@ -155,8 +153,8 @@ pub fn read_groups<L: DirectoryLink>(
     config: &Config,
     user: &DirEntry,
 ) -> Result<GroupRefs, Early>
-    ensures rounded { Rounded (record { sent = L.sent; asked = L.asked; received = L.received; coming = L.coming; answer = L.answer; behind = L.behind; faults = L.faults; refuses = L.refuses; ends = L.ends }) config.now.base client.old client.new (early_of result) (λ told. map holders_of (holder_asks told config.now.base config.now.level user.now.dn)) }
-    ensures groups { (b : Behind) → L.behind client.old.link ≡ Some b → IsSettled client.old (L.coming client.old.link) → is_dn user.now.dn ≡ true → IfOk result (λ groups. groups ≡ groups_of_user (at_or_under config.now.base b.entries) config.now.level user.now.dn) }
+    ensures rounded { Rounded (telling L.DirectoryLink) config.now.base client.old client.new (early_of result) (λ told. holder_questions told config.now.base config.now.level user.now.dn) }
+    ensures groups { OverTold L.DirectoryLink client.old (λ b. is_dn user.now.dn ≡ true → IfOk result (λ groups. groups ≡ groups_of_user (at_or_under config.now.base b.entries) config.now.level user.now.dn)) }
 {
     let mut rounds = Rounds {
         alloc,

@@ -1,11 +1,12 @@
 -- The lines of a scenario with their numbers, a block of directory entries being one of them.
-use Rattle.std.specs.Prelude.{ℕ, Bool, false, ◌&&◌, ◌+◌, ◌++◌, not, List, [], ◌∷◌, Option, Some, None, Result, Ok, Err, codes, if◌then◌else◌}
+use Rattle.std.specs.Prelude.{ℕ, Bool, false, ◌&&◌, ◌+◌, ◌++◌, not, List, [], ◌∷◌, length, Option, Some, None, Result, Ok, Err, codes, if◌then◌else◌}
+use Rattle.std.specs.Option.{option_map_or}
 use Rattle.sd_rules.specs.Keys.{same_name}
 use Rattle.sd_ldap.specs.declared.entry.DirEntry.{DirEntry}
 use Rattle.sd_ldif.specs.declared.LdifFault.{LdifFault}
 use Rattle.sd_ldif.specs.declared.LdifFault.TheVariants as ldif_faults
 use Rattle.sd_ldif.specs.Records.{ldif_of}
-use Rattle.sd_lines.specs.Words.{words_of}
+use Rattle.sd_lines.specs.Words.{pieces_in, words_of}
 use Rattle.sd_lines.specs.declared.lines.Line.{Line}
 use Rattle.sd_lines.specs.declared.lines.Line.TheVariants.{Ldif, Bad}
 use Rattle.sd_lines.specs.Lines.{is_comment, line_of}
@@ -72,3 +73,15 @@ statements_from n (Some b) (l ∷ ls) =
 -- the lines, the first of which has the number n
 abbrev pub statements_of : ℕ → List (List ℕ) → List Statement
 statements_of n ls = statements_from n None ls
+
+-- the lines left, the first of which has the number n
+abbrev pub statements_left : ℕ → Option (List ℕ) → List Statement
+statements_left n lines = statements_of n (pieces_in 10 lines)
+
+-- a block whose first line has the number n, and what comes behind it, where the lines behind the first are left
+abbrev pub statements_in_block : ℕ → Option (List ℕ) → List Statement
+statements_in_block n lines = statements_from (n + 1) (Some (record { first = n; text = [] })) (pieces_in 10 lines)
+
+-- how many bytes the lines left have, with the line feed in front of them; none where no line is left
+abbrev pub bytes_left : Option (List ℕ) → ℕ
+bytes_left lines = option_map_or (λ bytes. length bytes + 1) lines 0

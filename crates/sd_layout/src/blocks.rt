@@ -1,6 +1,6 @@
 // The lines of a scenario with their numbers, a block of directory entries being one of them.
-ghost use Rattle.std.specs.Prelude.{◌≡◌, ℕ, ◌^◌, ◌+◌, ◌<◌, ◌≤◌, ◌∷◌, [], length, map, codes, IfOk, OnOk, Some};
-ghost use Rattle.std.specs.Option.{option_copied, option_map_or};
+ghost use Rattle.std.specs.Prelude.{◌≡◌, ℕ, ◌^◌, ◌+◌, ◌<◌, ◌≤◌, ◌∷◌, [], length, map, codes, IfOk, OnOk};
+ghost use Rattle.std.specs.Option.{option_copied};
 ghost use Rattle.sd_ldif.specs.Records.{ldif_of};
 ghost use Rattle.sd_layout.specs.Blocks as blocks;
 ghost use Rattle.sd_layout.specs.Laws.{HasBlocks};
@@ -128,11 +128,11 @@ impl Block {
 
 /// A block whose first line has the number `first`; the lines behind that one are left.
 fn block_from(alloc: Global, first: u64, lines: Option<&[u8]>) -> Result<Next<'_>, Memory>
-    requires { first + option_map_or (λ bytes. length bytes + 1) (option_copied lines) 0 < 2 ^ 33 }
-    ensures told { IfOk result (λ next. blocks.statements_from (first + 1) (Some (record { first = first; text = [] })) (words.pieces_in 10 (option_copied lines.entry)) ≡ next.statement ∷ blocks.statements_of next.number (words.pieces_in 10 (option_copied next.rest))) }
+    requires { first + blocks.bytes_left (option_copied lines) < 2 ^ 33 }
+    ensures told { IfOk result (λ next. blocks.statements_in_block first (option_copied lines.entry) ≡ next.statement ∷ blocks.statements_left next.number (option_copied next.rest)) }
     ensures later { IfOk result (λ next. first < next.number) }
-    ensures shorter { IfOk result (λ next. option_map_or (λ bytes. length bytes + 1) (option_copied next.rest) 0 ≤ option_map_or (λ bytes. length bytes + 1) (option_copied lines.entry) 0) }
-    ensures room { IfOk result (λ next. next.number + option_map_or (λ bytes. length bytes + 1) (option_copied next.rest) 0 ≤ first + 1 + option_map_or (λ bytes. length bytes + 1) (option_copied lines.entry) 0) }
+    ensures shorter { IfOk result (λ next. blocks.bytes_left (option_copied next.rest) ≤ blocks.bytes_left (option_copied lines.entry)) }
+    ensures room { IfOk result (λ next. next.number + blocks.bytes_left (option_copied next.rest) ≤ first + 1 + blocks.bytes_left (option_copied lines.entry)) }
 {
     let mut block = Block::begin(alloc, first);
     let mut number = first + 1;
@@ -160,10 +160,10 @@ fn block_from(alloc: Global, first: u64, lines: Option<&[u8]>) -> Result<Next<'_
 /// The first line of a text, or the block that begins there, and what comes behind it.
 pub fn first_statement(alloc: Global, number: u64, text: &[u8]) -> Result<Next<'_>, Memory>
     requires { number + length text.now + 1 < 2 ^ 33 }
-    ensures told { IfOk result (λ next. blocks.statements_of number (words.lines_of text.now) ≡ next.statement ∷ blocks.statements_of next.number (words.pieces_in 10 (option_copied next.rest))) }
+    ensures told { IfOk result (λ next. blocks.statements_of number (words.lines_of text.now) ≡ next.statement ∷ blocks.statements_left next.number (option_copied next.rest)) }
     ensures later { IfOk result (λ next. number < next.number) }
-    ensures room { IfOk result (λ next. next.number + option_map_or (λ bytes. length bytes + 1) (option_copied next.rest) 0 ≤ number + length text.now + 1) }
-    ensures shorter { IfOk result (λ next. option_map_or (λ bytes. length bytes + 1) (option_copied next.rest) 0 ≤ length text.now) }
+    ensures room { IfOk result (λ next. next.number + blocks.bytes_left (option_copied next.rest) ≤ number + length text.now + 1) }
+    ensures shorter { IfOk result (λ next. blocks.bytes_left (option_copied next.rest) ≤ length text.now) }
 {
     let (line, rest) = cut(b'\n', text);
     if begins_block(alloc, b"ldif", line)? {

@@ -1,6 +1,6 @@
 // The configuration of a scenario, and its first line that has no form where it stands.
 ghost use Rattle.std.specs.Prelude.{◌≡◌, ℕ, ◌^◌, ◌+◌, ◌<◌, ◌≤◌, length, true, false, IfOk, IfErr, Ok};
-ghost use Rattle.std.specs.Option.{option_copied, option_map_or};
+ghost use Rattle.std.specs.Option.{option_copied};
 ghost use Rattle.sd_conf.specs.Config.{conf_of};
 ghost use Rattle.sd_layout.specs.Blocks as blocks;
 ghost use Rattle.sd_layout.specs.Faults as faults;
@@ -131,7 +131,7 @@ fn first_bad_from(
     servers: u32,
     body: Option<&[u8]>,
 ) -> Result<Option<u64>, Memory>
-    requires { first + option_map_or (λ bytes. length bytes + 1) (option_copied body) 0 < 2 ^ 33 }
+    requires { first + blocks.bytes_left (option_copied body) < 2 ^ 33 }
     ensures { IfOk result (λ bad. bad ≡ faults.first_bad_in (record { servers = servers; tasks = 0 }) (blocks.statements_of first (words.pieces_in 10 (option_copied body.entry)))) }
 {
     let mut number = first;
@@ -160,7 +160,7 @@ pub fn first_bad_behind(
     config: &Config,
 ) -> Result<Option<u64>, Memory>
     requires few { faults.has_few_servers config.now ≡ true }
-    requires room { head.now.number + option_map_or (λ bytes. length bytes + 1) (option_copied head.now.body) 0 < 2 ^ 33 }
+    requires room { head.now.number + blocks.bytes_left (option_copied head.now.body) < 2 ^ 33 }
     ensures { IfOk result (λ bad. bad ≡ faults.first_bad_by (head_seen head.now) (Ok config.now)) }
 {
     let servers = config.settings.primaries + config.settings.backups;

@@ -1,6 +1,7 @@
 // The head of a scenario, which gives the configuration.
 ghost use Rattle.std.specs.Prelude.{◌≡◌, ℕ, ◌^◌, ◌+◌, ◌<◌, ◌≤◌, ◌++◌, ◌∷◌, [], length, map, codes, IfOk, OnOk, Some};
-ghost use Rattle.std.specs.Option.{option_copied, option_map, option_map_or};
+ghost use Rattle.std.specs.Option.{option_copied, option_map};
+ghost use Rattle.sd_layout.specs.Blocks.{bytes_left};
 ghost use Rattle.sd_layout.specs.Head as heads;
 ghost use Rattle.sd_layout.specs.Seen.{head_seen};
 ghost use Rattle.sd_lines.specs.Lines as lines;
@@ -230,9 +231,9 @@ fn setting_of(alloc: Global, line: &[u8]) -> Result<Option<Text>, Memory>
 
 /// The head of a scenario that begins with a block; the block's lines are those left.
 fn block_from(alloc: Global, first: u64, lines: Option<&[u8]>) -> Result<Head<'_>, Memory>
-    requires { first + option_map_or (λ bytes. length bytes + 1) (option_copied lines) 0 < 2 ^ 33 }
+    requires { first + bytes_left (option_copied lines) < 2 ^ 33 }
     ensures head { IfOk result (λ head. head_seen head ≡ heads.block_from first (first + 1) heads.block_origin (words.pieces_in 10 (option_copied lines.entry))) }
-    ensures room { IfOk result (λ head. head.number + option_map_or (λ bytes. length bytes + 1) (option_copied head.body) 0 ≤ first + 1 + option_map_or (λ bytes. length bytes + 1) (option_copied lines.entry) 0) }
+    ensures room { IfOk result (λ head. head.number + bytes_left (option_copied head.body) ≤ first + 1 + bytes_left (option_copied lines.entry)) }
 {
     let mut origin = Origin::of_block(alloc);
     let mut number = first + 1;
@@ -263,9 +264,9 @@ fn block_from(alloc: Global, first: u64, lines: Option<&[u8]>) -> Result<Head<'_
 
 /// The head of a scenario without a block: the lines left that set options, up to the first other line.
 fn settings_from(alloc: Global, first: u64, lines: Option<&[u8]>) -> Result<Head<'_>, Memory>
-    requires { first + option_map_or (λ bytes. length bytes + 1) (option_copied lines) 0 < 2 ^ 33 }
+    requires { first + bytes_left (option_copied lines) < 2 ^ 33 }
     ensures head { IfOk result (λ head. head_seen head ≡ heads.settings_from first heads.default_origin (words.pieces_in 10 (option_copied lines.entry))) }
-    ensures room { IfOk result (λ head. head.number + option_map_or (λ bytes. length bytes + 1) (option_copied head.body) 0 ≤ first + option_map_or (λ bytes. length bytes + 1) (option_copied lines.entry) 0) }
+    ensures room { IfOk result (λ head. head.number + bytes_left (option_copied head.body) ≤ first + bytes_left (option_copied lines.entry)) }
 {
     let mut origin = Origin::of_default(alloc)?;
     let mut number = first;
@@ -293,7 +294,7 @@ fn settings_from(alloc: Global, first: u64, lines: Option<&[u8]>) -> Result<Head
 pub fn head_of(alloc: Global, text: &[u8]) -> Result<Head<'_>, Memory>
     requires { length text.now < 2 ^ 32 }
     ensures head { IfOk result (λ head. head_seen head ≡ heads.head_of text.now) }
-    ensures room { IfOk result (λ head. head.number + option_map_or (λ bytes. length bytes + 1) (option_copied head.body) 0 ≤ length text.now + 2) }
+    ensures room { IfOk result (λ head. head.number + bytes_left (option_copied head.body) ≤ length text.now + 2) }
 {
     let mut number = 1;
     let mut left = Some(text);

@@ -1,12 +1,12 @@
 -- The rounds: which DNs are asked, in which order.
-use Rattle.std.specs.Prelude.{ℕ, zero, suc, Bool, true, false, not, ◌&&◌, if◌then◌else◌, List, [], ◌∷◌, ◌++◌, Option, Some, None}
+use Rattle.std.specs.Prelude.{ℕ, zero, suc, Bool, true, false, not, ◌&&◌, if◌then◌else◌, List, [], ◌∷◌, ◌++◌, map, Option, Some, None}
 use Rattle.std.specs.List.{list_any, flat_map}
 use Rattle.sd_dn.specs.declared.Pair.{Pair}
 use Rattle.sd_dn.specs.Comparing.{same_dn, ends_with}
 use Rattle.sd_dn.specs.Texts.{spelled}
 use Rattle.sd_ldap.specs.declared.entry.DirEntry.{DirEntry}
 use Rattle.sd_match.specs.Answering.{found}
-use Rattle.sd_nested.specs.Searches.{read_search, holder_search}
+use Rattle.sd_nested.specs.Searches.{Question, entry_at, holders_of, read_search, holder_search}
 use Rattle.sd_nested.specs.Named.{group_values}
 
 -- a DN that is admitted, and equals none that was met before
@@ -82,6 +82,10 @@ member_start base group = beginning (dns_of (first_values base group)) (first_va
 abbrev pub member_reads : List DirEntry → List (List Pair) → ℕ → DirEntry → List (List ℕ)
 member_reads entries base level group = (rounds (member_way entries base) (member_start base group) (suc level)).asked
 
+-- what is asked in the member rounds from a group
+abbrev pub member_questions : List DirEntry → List (List Pair) → ℕ → DirEntry → List Question
+member_questions entries base level group = map entry_at (member_reads entries base level group)
+
 -- Holder rounds: the groups that hold a DN are asked for, and the DNs of the groups found are asked next.
 abbrev pub holder_way : List DirEntry → List ℕ → Way
 holder_way entries base = record {
@@ -93,3 +97,7 @@ holder_way entries base = record {
 -- the DNs asked in level + 1 holder rounds
 abbrev pub holder_asks : List DirEntry → List ℕ → ℕ → List ℕ → List (List ℕ)
 holder_asks entries base level dn = (rounds (holder_way entries base) (beginning [] (dn ∷ [])) (suc level)).asked
+
+-- what is asked in the holder rounds from a DN
+abbrev pub holder_questions : List DirEntry → List ℕ → ℕ → List ℕ → List Question
+holder_questions entries base level dn = map holders_of (holder_asks entries base level dn)

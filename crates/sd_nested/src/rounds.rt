@@ -1,12 +1,11 @@
 //! The rounds: each DN is asked once, and what is found leads on.
-ghost use Rattle.std.specs.Prelude.{◌≡◌, ◌++◌, ◌≢◌, ℕ, suc, List, [], ◌∷◌, Bool, map, if◌then◌else◌, Some, IfOk, OnOk};
+ghost use Rattle.std.specs.Prelude.{◌≡◌, ◌++◌, ◌≢◌, ℕ, List, [], ◌∷◌, Bool, map, if◌then◌else◌, Some, IfOk, OnOk};
 ghost use Rattle.std.specs.List.{list_any, flat_map};
 ghost use Rattle.sd_dn.specs.Comparing.{same_dn};
 ghost use Rattle.sd_dn.specs.Texts as texts;
 ghost use Rattle.sd_ldap.specs.declared.entry.DirEntry.{DirEntry};
-ghost use Rattle.sd_match.specs.Answering.{found, sent};
 ghost use Rattle.sd_nested.specs.Asking.{Exchanged, ExchangedOver, stop_of};
-ghost use Rattle.sd_nested.specs.Rounds.{is_new, listed_dn, dns_of, new_among, rounds, beginning};
+ghost use Rattle.sd_nested.specs.Rounds.{is_new, listed_dn, dns_of, new_among};
 
 use crate::named::{push_group, push_group_values, push_user};
 use crate::searcher::{Searcher, Stop};
@@ -27,7 +26,7 @@ pub enum Direction {
     Holders,
 }
 
-ghost use Rattle.sd_nested.specs.Directions.{question_by, search_by, admits_by, leads_by, kept_by, way_by, HandsOn};
+ghost use Rattle.sd_nested.specs.Directions.{question_by, admits_by, leads_by, kept_by, given_by, kept_in, leads_in, asked_by, kept_of, HandsOn};
 
 fn admits(direction: &Direction, dn: &Dn) -> bool
     ensures { result ≡ admits_by direction.now dn.now }
@@ -94,7 +93,7 @@ fn ask<S: Searcher>(
     ensures tells { (told : List DirEntry) → S.tells searcher.old told → S.tells searcher.new told }
     ensures base { S.base searcher.new ≡ S.base searcher.old }
     ensures exchanged { Exchanged S.went searcher.old searcher.new (stop_of result) (Some (question_by direction.now dn.now ∷ [])) }
-    ensures told { (told : List DirEntry) → S.tells searcher.old told → IfOk result (λ given. given ≡ map (sent (search_by direction.now (S.base searcher.old) dn.now)) (found told (search_by direction.now (S.base searcher.old) dn.now))) }
+    ensures told { (told : List DirEntry) → S.tells searcher.old told → IfOk result (λ given. given ≡ given_by told (S.base searcher.old) direction.now dn.now) }
 {
     match direction {
         Direction::Members(_) => given(alloc, searcher.read(dn)),
@@ -149,8 +148,8 @@ fn ask_each<S: Searcher>(
     ensures tells { (told : List DirEntry) → S.tells searcher.old told → S.tells searcher.new told }
     ensures base { S.base searcher.new ≡ S.base searcher.old }
     ensures exchanged { Exchanged S.went searcher.old searcher.new (stop_of result) (Some (map (question_by direction.now) due.now)) }
-    ensures kept { (told : List DirEntry) → S.tells searcher.old told → OnOk result (kept.new ≡ kept.old ++ flat_map (kept_by direction.now) (flat_map (way_by told (S.base searcher.old) direction.now).answers due.now)) }
-    ensures onward { (told : List DirEntry) → S.tells searcher.old told → OnOk result (onward.new ≡ onward.old ++ flat_map (leads_by direction.now) (flat_map (way_by told (S.base searcher.old) direction.now).answers due.now)) }
+    ensures kept { (told : List DirEntry) → S.tells searcher.old told → OnOk result (kept.new ≡ kept.old ++ kept_in told (S.base searcher.old) direction.now due.now) }
+    ensures onward { (told : List DirEntry) → S.tells searcher.old told → OnOk result (onward.new ≡ onward.old ++ leads_in told (S.base searcher.old) direction.now due.now) }
 {
     for dn in due {
         let entries = ask(alloc, searcher, direction, dn)?;
@@ -171,8 +170,8 @@ fn go_round<S: Searcher>(
     ensures tells { (told : List DirEntry) → S.tells searcher.old told → S.tells searcher.new told }
     ensures base { S.base searcher.new ≡ S.base searcher.old }
     ensures exchanged { Exchanged S.went searcher.old searcher.new (stop_of result) (Some (map (question_by direction.now) due.now)) }
-    ensures kept { (told : List DirEntry) → S.tells searcher.old told → OnOk result (kept.new ≡ kept.old ++ flat_map (kept_by direction.now) (flat_map (way_by told (S.base searcher.old) direction.now).answers due.now)) }
-    ensures next { (told : List DirEntry) → S.tells searcher.old told → IfOk result (λ next. next ≡ new_among (admits_by direction.now) seen.old (flat_map (leads_by direction.now) (flat_map (way_by told (S.base searcher.old) direction.now).answers due.now))) }
+    ensures kept { (told : List DirEntry) → S.tells searcher.old told → OnOk result (kept.new ≡ kept.old ++ kept_in told (S.base searcher.old) direction.now due.now) }
+    ensures next { (told : List DirEntry) → S.tells searcher.old told → IfOk result (λ next. next ≡ new_among (admits_by direction.now) seen.old (leads_in told (S.base searcher.old) direction.now due.now)) }
     ensures seen { IfOk result (λ next. seen.new ≡ seen.old ++ dns_of next) }
 {
     let mut onward = Texts::new(alloc);
@@ -192,8 +191,8 @@ pub fn go_rounds<S: Searcher>(
 ) -> Result<GroupRefs, Stop>
     ensures tells { (told : List DirEntry) → S.tells searcher.old told → S.tells searcher.new told }
     ensures base { S.base searcher.new ≡ S.base searcher.old }
-    ensures exchanged { ExchangedOver S.went searcher.old searcher.new (stop_of result) (S.tells searcher.old) (λ told. map (question_by direction.now) (rounds (way_by told (S.base searcher.old) direction.now) (beginning seen first) (suc level)).asked) }
-    ensures kept { (told : List DirEntry) → S.tells searcher.old told → IfOk result (λ kept. kept ≡ flat_map (kept_by direction.now) (rounds (way_by told (S.base searcher.old) direction.now) (beginning seen first) (suc level)).found) }
+    ensures exchanged { ExchangedOver S.went searcher.old searcher.new (stop_of result) (S.tells searcher.old) (λ told. asked_by told (S.base searcher.old) direction.now seen first level) }
+    ensures kept { (told : List DirEntry) → S.tells searcher.old told → IfOk result (λ kept. kept ≡ kept_of told (S.base searcher.old) direction.now seen first level) }
 {
     let mut seen = seen;
     let mut due = first;

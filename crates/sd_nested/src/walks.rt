@@ -1,10 +1,9 @@
 //! Members of a group, and groups of a user.
-ghost use Rattle.std.specs.Prelude.{◌≡◌, ℕ, List, map, true, IfOk, Some};
+ghost use Rattle.std.specs.Prelude.{◌≡◌, ℕ, List, true, IfOk, Some};
 ghost use Rattle.sd_ldap.specs.declared.entry.DirEntry.{DirEntry};
 ghost use Rattle.sd_dn.specs.Reading.{is_dn};
-ghost use Rattle.sd_nested.specs.Searches.{Exchange, entry_at, holders_of};
 ghost use Rattle.sd_nested.specs.Paths.{at_or_under, members_of, groups_of_user};
-ghost use Rattle.sd_nested.specs.Rounds.{member_reads, holder_asks};
+ghost use Rattle.sd_nested.specs.Rounds.{member_questions, holder_questions};
 ghost use Rattle.sd_nested.specs.Asking.{ExchangedOver, stop_of};
 
 use crate::named::push_group_values;
@@ -30,7 +29,7 @@ pub fn members<S: Searcher>(
     ensures tells { (told : List DirEntry) → S.tells searcher.old told → S.tells searcher.new told }
     ensures base { S.base searcher.new ≡ S.base searcher.old }
     // What was asked, in order, and how it ended; over told entries the DNs are those of the rounds.
-    ensures exchanged { ExchangedOver S.went searcher.old searcher.new (stop_of result) (S.tells searcher.old) (λ told. map entry_at (member_reads told base.now level group.now)) }
+    ensures exchanged { ExchangedOver S.went searcher.old searcher.new (stop_of result) (S.tells searcher.old) (λ told. member_questions told base.now level group.now) }
     ensures members { (told : List DirEntry) → S.tells searcher.old told → IfOk result (λ names. names ≡ members_of told base.now level group.now) }
 {
     let direction = Direction::Members(base.copy()?);
@@ -54,7 +53,7 @@ pub fn groups_of<S: Searcher>(
     ensures tells { (told : List DirEntry) → S.tells searcher.old told → S.tells searcher.new told }
     ensures base { S.base searcher.new ≡ S.base searcher.old }
     // What was asked, in order, and how it ended; over told entries the DNs are those of the rounds.
-    ensures exchanged { ExchangedOver S.went searcher.old searcher.new (stop_of result) (S.tells searcher.old) (λ told. map holders_of (holder_asks told (S.base searcher.old) level user.now.dn)) }
+    ensures exchanged { ExchangedOver S.went searcher.old searcher.new (stop_of result) (S.tells searcher.old) (λ told. holder_questions told (S.base searcher.old) level user.now.dn) }
     // A user's DN is a DN.
     ensures groups { (told : List DirEntry) → S.tells searcher.old told → is_dn user.now.dn ≡ true → IfOk result (λ groups. groups ≡ groups_of_user (at_or_under (S.base searcher.old) told) level user.now.dn) }
 {

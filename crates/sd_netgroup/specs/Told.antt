@@ -3,6 +3,9 @@ use Rattle.std.specs.Prelude.{◌≡◌, ◌⊎◌, ℕ, ◌≤◌, true, false,
 use Rattle.sd_base.specs.declared.Why.{Why}
 use Rattle.sd_base.specs.declared.Why.TheVariants as whys
 use Rattle.sd_dial.specs.Entries.{Behind}
+use Rattle.sd_client.specs.Links.{Links}
+use Rattle.sd_client.specs.Talk.{Talk}
+use Rattle.sd_asking.specs.Settled.{OverTold}
 use Rattle.sd_fetch.specs.Told.{first_failure}
 use Rattle.sd_netgroup.specs.declared.asking.Netted.{Netted}
 use Rattle.sd_netgroup.specs.declared.asking.Netted.TheVariants as nets
@@ -38,3 +41,8 @@ IsToldNetting b count id base name nets.Absent refuses ends coming = AreWithin b
 IsToldNetting b count id base name (nets.Code code) refuses ends coming = ⊥
 IsToldNetting b count id base name (nets.Failed why) refuses ends coming = IsToldFailure why (MeetLimit b count id base name) refuses ends coming
 IsToldNetting b count id base name nets.Memory refuses ends coming = Unit {0}
+
+-- where the directory is told: the triples in its entries, unless a search meets a limit
+abbrev pub NettedInTold : {L : Type 0} → Links L → List ℕ → List ℕ → Talk L → Netted → Talk L → Type 0
+NettedInTold links base name old result new =
+    OverTold links old (λ b. IsToldNetting b (length old.received) old.next base name result (links.refuses new.link) (links.ends new.link) (links.coming new.link))

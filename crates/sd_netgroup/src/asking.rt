@@ -1,11 +1,9 @@
 //! A netgroup asked for at a directory.
-ghost use Rattle.std.specs.Prelude.{◌≡◌, length, Some};
-ghost use Rattle.sd_dial.specs.Entries.{Behind};
-ghost use Rattle.sd_asking.specs.Settled.{IsSettled};
-ghost use Rattle.sd_fetch.specs.Exchanging.{Telling};
+ghost use Rattle.std.specs.Prelude.{◌≡◌};
+ghost use Rattle.sd_fetch.specs.Exchanging.{telling};
 ghost use Rattle.sd_netgroup.specs.Asking.{Asked};
 ghost use Rattle.sd_netgroup.specs.Stepping.{NettedBy, netted_of};
-ghost use Rattle.sd_netgroup.specs.Told.{IsToldNetting};
+ghost use Rattle.sd_netgroup.specs.Told.{NettedInTold};
 
 use crate::finds::Finds;
 use crate::order::listed;
@@ -63,9 +61,9 @@ pub fn netgroup<L: DirectoryLink>(
     name: &Text,
 ) -> Netted
     // Over any link: the searches made, in order, and how they came to the result.
-    ensures asked { Asked (record { sent = L.sent; asked = L.asked; received = L.received; coming = L.coming; answer = L.answer; behind = L.behind; faults = L.faults; refuses = L.refuses; ends = L.ends }) base.now name.now client.old result client.new }
+    ensures asked { Asked (telling L.DirectoryLink) base.now name.now client.old result client.new }
     // Over a link that tells the directory behind it: the triples in its entries, unless a search meets a limit.
-    ensures told { (b : Behind) → L.behind client.old.link ≡ Some b → IsSettled client.old (L.coming client.old.link) → IsToldNetting b (length client.old.received) client.old.next base.now name.now result (L.refuses client.new.link) (L.ends client.new.link) (L.coming client.new.link) }
+    ensures told { NettedInTold L.DirectoryLink base.now name.now client.old result client.new }
 {
     match gather(alloc, client, base, name) {
         Ok(finds) => found_by(alloc, finds),

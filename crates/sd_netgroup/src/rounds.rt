@@ -2,7 +2,7 @@
 ghost use Rattle.std.specs.Prelude.{◌≡◌, ℕ, slice_get, IfOk};
 ghost use Rattle.sd_ldap.specs.Values.{search_value};
 ghost use Rattle.sd_ldap.specs.Sound.{IsSoundSearch};
-ghost use Rattle.sd_fetch.specs.Exchanging.{Telling, Exchange, Went};
+ghost use Rattle.sd_fetch.specs.Exchanging.{telling, searched_as, Went};
 ghost use Rattle.sd_netgroup.specs.Stepping.{Tried, Steps, Gathered};
 
 use crate::finds::Finds;
@@ -21,7 +21,7 @@ const MOST_NAMES: usize = 1 << 31;
 /// Searches once.
 fn ask<L: DirectoryLink>(client: &mut Client<L>, request: &SearchRequest) -> Searched
     requires { IsSoundSearch (search_value request.now) }
-    ensures { Went (record { sent = L.sent; asked = L.asked; received = L.received; coming = L.coming; answer = L.answer; behind = L.behind; faults = L.faults; refuses = L.refuses; ends = L.ends }) client.old (record { search = search_value request.now; searched = result }) client.new }
+    ensures { Went (telling L.DirectoryLink) client.old (searched_as (search_value request.now) result) client.new }
 {
     search(client, request)
 }
@@ -33,7 +33,7 @@ fn find<L: DirectoryLink>(
     base: &Text,
     name: &Text,
 ) -> Result<DirEntries, Stop>
-    ensures { Tried (record { sent = L.sent; asked = L.asked; received = L.received; coming = L.coming; answer = L.answer; behind = L.behind; faults = L.faults; refuses = L.refuses; ends = L.ends }) base.now name.now client.old result client.new }
+    ensures { Tried (telling L.DirectoryLink) base.now name.now client.old result client.new }
 {
     let request = net_search(alloc, base, name)?;
     match ask(client, &request) {
@@ -63,7 +63,7 @@ fn step<L: DirectoryLink>(
     finds: &mut Finds,
     place: usize,
 ) -> Result<bool, Stop>
-    ensures { Steps (record { sent = L.sent; asked = L.asked; received = L.received; coming = L.coming; answer = L.answer; behind = L.behind; faults = L.faults; refuses = L.refuses; ends = L.ends }) base.now place finds.old client.old result finds.new client.new }
+    ensures { Steps (telling L.DirectoryLink) base.now place finds.old client.old result finds.new client.new }
 {
     let Some(name) = due(finds, place)? else {
         return Ok(false);
@@ -80,7 +80,7 @@ pub fn gather<L: DirectoryLink>(
     base: &Text,
     name: &Text,
 ) -> Result<Finds, Stop>
-    ensures { Gathered (record { sent = L.sent; asked = L.asked; received = L.received; coming = L.coming; answer = L.answer; behind = L.behind; faults = L.faults; refuses = L.refuses; ends = L.ends }) base.now name.now client.old result client.new }
+    ensures { Gathered (telling L.DirectoryLink) base.now name.now client.old result client.new }
 {
     let mut finds = Finds::new(alloc, name)?;
     for place in 0..MOST_NAMES {

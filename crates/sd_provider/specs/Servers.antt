@@ -1,5 +1,5 @@
 -- What a lookup and a bind at a server of some entries come to, by its mode.
-use Rattle.std.specs.Prelude.{ℕ, ◌^◌, ◌<◌, ◌==◌, ◌||◌, ◌&&◌, Bool, true, false, if◌then◌else◌, List, [], length, Option, Some, None}
+use Rattle.std.specs.Prelude.{◌≡◌, ◌⊎◌, ℕ, ◌^◌, ◌<◌, ◌==◌, ◌||◌, ◌&&◌, Bool, true, false, if◌then◌else◌, List, [], length, Option, Some, None}
 use Rattle.sd_base.specs.declared.Why.{Why}
 use Rattle.sd_base.specs.declared.Why.TheVariants as whys
 use Rattle.sd_rules.specs.declared.keys.Key.{Key}
@@ -9,11 +9,12 @@ use Rattle.sd_rules.specs.declared.tasks.Bound.{Bound}
 use Rattle.sd_rules.specs.declared.tasks.Bound.TheVariants as bounds
 use Rattle.sd_rules.specs.declared.tasks.Fetched.{Fetched}
 use Rattle.sd_rules.specs.declared.tasks.Fetched.TheVariants as fetches
+use Rattle.sd_rules.specs.Scripts.{is_out_of_memory, is_bind_out_of_memory}
 use Rattle.sd_conf.specs.declared.config.Config.{Config}
 use Rattle.sd_ldap.specs.declared.entry.DirEntry.{DirEntry}
 use Rattle.sd_ldap.specs.Values.{SearchValue}
 use Rattle.sd_dial.specs.Entries.{Framing, shortest, four_octets, Behind}
-use Rattle.sd_client.specs.Talk.{bind_message, search_message}
+use Rattle.sd_client.specs.Talk.{Talk, bind_message, search_message}
 use Rattle.sd_asking.specs.Sizes.{content_size, is_too_long}
 use Rattle.sd_asking.specs.Binding.{ToldBound, code, failed, told_bind}
 use Rattle.sd_fetch.specs.Searches.{first_search}
@@ -21,6 +22,7 @@ use Rattle.sd_fetch.specs.Lookup.{looked_up}
 use Rattle.sd_fetch.specs.Told.{searches_of, first_failure}
 use Rattle.sd_stub.specs.declared.Mode.{Mode}
 use Rattle.sd_stub.specs.declared.Mode.TheVariants as modes
+use Rattle.sd_stub_link.specs.Standing.{Standing}
 
 -- a directory's entries behind a framing
 abbrev pub behind_in : Framing → List DirEntry → Behind
@@ -111,3 +113,20 @@ abbrev pub gives_nothing : Fetched → Bool
 gives_nothing (fetches.Found found) = has_nothing found
 gives_nothing fetches.Absent = true
 gives_nothing _ = false
+
+-- ---- what a call over a client comes to
+
+-- the client failed by its link, which found no memory
+abbrev pub IsStarved : Talk Standing → Type 0
+IsStarved talk = (talk.failed ≡ Some whys.Link) × (talk.link.starved ≡ true)
+
+-- a bind came to what the server of a mode says, or memory was wanting
+abbrev pub BindComesTo : Mode → List DirEntry → List ℕ → List ℕ → Bound → Talk Standing → Type 0
+BindComesTo mode entries dn password result talk = (is_bind_out_of_memory result ≡ true) ⊎ (IsStarved talk ⊎ (result ≡ bound_in mode entries dn password))
+
+-- a lookup came to what the server of a mode says, or memory was wanting; or it gave something where each search is to
+-- give no entries
+abbrev pub LookupComesTo : Mode → Config → List DirEntry → Key → Fetched → Talk Standing → Type 0
+LookupComesTo mode config entries key result talk =
+    ((is_empty_mode mode ≡ true) × (gives_nothing result ≡ false))
+    ⊎ ((is_out_of_memory result ≡ true) ⊎ (IsStarved talk ⊎ (result ≡ fetched_in mode config entries key)))

@@ -1,6 +1,5 @@
 //! The bind at a server.
-ghost use Rattle.std.specs.Prelude.{◌≡◌, ℕ, [], ◌⊎◌, false, true, IfOk, Some, None};
-ghost use Rattle.sd_base.specs.declared.Why.TheVariants as whys;
+ghost use Rattle.std.specs.Prelude.{◌≡◌, [], false, true, IfOk, None};
 ghost use Rattle.sd_rules.specs.Scripts.{is_bind_out_of_memory};
 ghost use Rattle.sd_dial.specs.Rooms.{are_short};
 ghost use Rattle.sd_stub_link.specs.Distinct.{have_own_dns};
@@ -30,7 +29,7 @@ fn ask(
     requires own { have_own_dns directory.now ≡ true }
     requires short { are_short directory.now ≡ true }
     requires fresh { client.old ≡ record { link = made directory.now mode [] 0; received = []; at = 0; next = 1; failed = None } }
-    ensures { (is_bind_out_of_memory result ≡ true) ⊎ (((client.new.failed ≡ Some whys.Link) × (client.new.link.starved ≡ true)) ⊎ (result ≡ servers.bound_in mode directory.now dn.now password.now)) }
+    ensures { servers.BindComesTo mode directory.now dn.now password.now result client.new }
 {
     decides_alone();
     bind(client, dn, password)

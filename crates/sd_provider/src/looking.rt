@@ -1,6 +1,5 @@
 //! The lookup at a server.
-ghost use Rattle.std.specs.Prelude.{◌≡◌, ℕ, [], ◌⊎◌, false, true, IfOk, Some, None};
-ghost use Rattle.sd_base.specs.declared.Why.TheVariants as whys;
+ghost use Rattle.std.specs.Prelude.{◌≡◌, [], false, true, IfOk, None};
 ghost use Rattle.sd_rules.specs.Lookups.{is_fetched_of_kind};
 ghost use Rattle.sd_rules.specs.Scripts.{is_out_of_memory};
 ghost use Rattle.sd_dial.specs.Rooms.{are_short};
@@ -34,7 +33,7 @@ fn ask(
     requires own { have_own_dns directory.now ≡ true }
     requires short { are_short directory.now ≡ true }
     requires fresh { client.old ≡ record { link = made directory.now mode [] 0; received = []; at = 0; next = 1; failed = None } }
-    ensures comes { ((servers.is_empty_mode mode ≡ true) × (servers.gives_nothing result ≡ false)) ⊎ ((is_out_of_memory result ≡ true) ⊎ (((client.new.failed ≡ Some whys.Link) × (client.new.link.starved ≡ true)) ⊎ (result ≡ servers.fetched_in mode config.now directory.now key.now))) }
+    ensures comes { servers.LookupComesTo mode config.now directory.now key.now result client.new }
     ensures kind { is_fetched_of_kind key.now result ≡ true }
 {
     decides_alone();
@@ -54,7 +53,7 @@ fn gives_nothing(fetched: &Fetched) -> bool
     ensures { result ≡ servers.gives_nothing fetched.now }
 {
     match fetched {
-        Fetched::Found(found) => has_nothing(found),
+        Fetched::Found(found) => has_nothing(found.value()),
         Fetched::Absent => true,
         _ => false,
     }

@@ -16,7 +16,7 @@ use Rattle.sd_scenario.specs.Clients.{begun}
 use Rattle.sd_scenario.specs.Courses.{Course, LoginWords, LoggingIn, lookup, login, check}
 use Rattle.sd_scenario.specs.Stops.{Halts}
 use Rattle.sd_scenario.specs.Tasks.{World, Halt, Full, Endless, MakesEvents, NoneIsReady, is_bounded, is_settled_at, most_moves, moves_at, run_from}
-use Rattle.sd_scenario.specs.Transcript.{Transcript, StepsAs, client_added, hold, lets_run, line_done, login_words, start, task_made, transcript, transcript_after, transcript_by, transcript_on}
+use Rattle.sd_scenario.specs.Transcript.{Transcript, StepsAs, check_words, client_added, hold, lets_run, line_done, login_words, start, task_made, transcript, transcript_after, transcript_by, transcript_on}
 use Rattle.sd_scenario.proofs.BoundLaws.{IsBounded, is_poised, event_bounded, forgot_bounded, left_bounded, moves_bounded, poised_more, runs_bounded}
 use Rattle.sd_scenario.proofs.MoveLaws.{Bounded, moves_made}
 use Rattle.sd_scenario.proofs.RestLaws.{Whole, run_rested, whole_is}
@@ -38,7 +38,7 @@ line_rests w (lines.GetGroup name) h = task_rests w (lookup (keys.Group name)) h
 line_rests w (lines.GetGid gid) h = task_rests w (lookup (keys.Gid gid)) h
 line_rests w (lines.GroupsOf name) h = task_rests w (lookup (keys.GroupsOf name)) h
 line_rests w (lines.Login user password) h = task_rests w (login (login_words w user password)) h
-line_rests w (lines.Access user service) h = task_rests w (check (record { user = user; service = service; mode = w.site.config.settings.access })) h
+line_rests w (lines.Access user service) h = task_rests w (check (check_words w user service)) h
 line_rests w _ h = let clash : ⊥ = cc in absurd clash
 
 -- ---- steps
@@ -100,7 +100,7 @@ line_bounded w (lines.GetGroup name) h = task_bounded w (lookup (keys.Group name
 line_bounded w (lines.GetGid gid) h = task_bounded w (lookup (keys.Gid gid)) refl h
 line_bounded w (lines.GroupsOf name) h = task_bounded w (lookup (keys.GroupsOf name)) refl h
 line_bounded w (lines.Login user password) h = task_bounded w (login (login_words w user password)) (login_poised (login_words w user password) password) h
-line_bounded w (lines.Access user service) h = task_bounded w (check (record { user = user; service = service; mode = w.site.config.settings.access })) refl h
+line_bounded w (lines.Access user service) h = task_bounded w (check (check_words w user service)) refl h
 line_bounded w lines.Go h = runs_bounded (hold w false) 0 (record { limit = h.limit; numbered = h.numbered; poised = h.poised })
 line_bounded w (lines.Step task count) h = moves_bounded count w (task - 1) h
 line_bounded w (lines.Abandon task) h = left_bounded w (task - 1) h

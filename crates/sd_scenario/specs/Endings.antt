@@ -1,11 +1,14 @@
 -- How a scenario ends: its status and what it writes, where no fault and no want of memory comes between.
-use Rattle.std.specs.Prelude.{ℕ, Bool, true, false, ◌++◌, nat_lt, length, codes, ◌≤◌, ◌≢◌, List, [], ◌∷◌, Option, Some, None, if◌then◌else◌}
+use Rattle.std.specs.Prelude.{ℕ, Bool, true, false, ◌++◌, nat_lt, length, codes, ◌≤◌, ◌≢◌, List, [], ◌∷◌, Option, Some, None, Ok, if◌then◌else◌}
 use Rattle.std.specs.Fmt.{decimal}
 use Rattle.sd_rules.specs.Keys.{same_name}
 use Rattle.sd_scenario.specs.declared.endings.Ending.{Ending}
 use Rattle.sd_scenario.specs.declared.endings.TheConstants.{DONE, USAGE, BAD_LINE, JOURNAL_FULL, TOO_LONG, LIMIT}
-use Rattle.sd_layout.specs.Faults.{first_bad}
-use Rattle.sd_scenario.specs.Transcript.{Transcript, transcript}
+use Rattle.sd_conf.specs.declared.config.Config.{Config}
+use Rattle.sd_layout.specs.Blocks.{statements_of}
+use Rattle.sd_layout.specs.Faults.{first_bad, first_bad_by}
+use Rattle.sd_layout.specs.Head.{Head}
+use Rattle.sd_scenario.specs.Transcript.{Transcript, transcript, transcript_by}
 
 -- the one list of words that has a form
 abbrev pub is_scenario : List (List ℕ) → Bool
@@ -33,6 +36,10 @@ ending_by_journal is_full text = record { status = status_by_journal is_full; ou
 abbrev pub ending_by_bad : Option ℕ → Transcript → Ending
 ending_by_bad (Some n) t = record { status = BAD_LINE; output = bad_line n }
 ending_by_bad None t = ending_by_journal t.is_full t.text
+
+-- the end of a scenario whose head gives this configuration
+abbrev pub ending_behind : Head → Config → Ending
+ending_behind head config = ending_by_bad (first_bad_by head (Ok config)) (transcript_by (Ok config) (statements_of head.number head.body))
 
 abbrev pub ending_by_lines : List ℕ → Ending
 ending_by_lines text = ending_by_bad (first_bad text) (transcript text)

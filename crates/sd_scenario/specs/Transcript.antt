@@ -3,6 +3,7 @@ use Rattle.std.specs.Prelude.{◌≡◌, ℕ, Bool, true, false, not, ◌&&◌, 
 use Rattle.sd_rules.specs.declared.keys.Key.TheVariants as keys
 use Rattle.sd_rules.specs.declared.events.Event.{Event}
 use Rattle.sd_rules.specs.declared.events.Event.TheVariants as events
+use Rattle.sd_rules.specs.AccessScript.{AccessWords}
 use Rattle.sd_rules.specs.Reaching.{after_forget}
 use Rattle.sd_conf.specs.declared.config.Config.{Config}
 use Rattle.sd_lines.specs.declared.lines.Line.{Line}
@@ -100,6 +101,10 @@ directory_line_done w line = entry_line_done w line
 abbrev pub login_words : World → List ℕ → List ℕ → LoginWords
 login_words w user password = record { user = user; password = password; stores = w.site.config.settings.cache_credentials }
 
+-- the words of an account check, by the way of checking that the configuration has
+abbrev pub check_words : World → List ℕ → List ℕ → AccessWords
+check_words w user service = record { user = user; service = service; mode = w.site.config.settings.access }
+
 -- a line that makes a task
 abbrev pub task_line_done : World → Line → Result World Halt
 task_line_done w (lines.GetUser name) = task_made w (lookup (keys.User name))
@@ -108,7 +113,7 @@ task_line_done w (lines.GetGroup name) = task_made w (lookup (keys.Group name))
 task_line_done w (lines.GetGid gid) = task_made w (lookup (keys.Gid gid))
 task_line_done w (lines.GroupsOf name) = task_made w (lookup (keys.GroupsOf name))
 task_line_done w (lines.Login user password) = task_made w (login (login_words w user password))
-task_line_done w (lines.Access user service) = task_made w (check (record { user = user; service = service; mode = w.site.config.settings.access }))
+task_line_done w (lines.Access user service) = task_made w (check (check_words w user service))
 task_line_done w _ = Ok w
 
 -- what a line does: the operator's word, a forget, a task that is made, tasks that are held, or the directory

@@ -1,14 +1,13 @@
 // How a scenario ends: its status and what it writes.
-ghost use Rattle.std.specs.Prelude.{◌≡◌, ◌≢◌, ◌<◌, ◌+◌, ◌⊎◌, ◌^◌, length, IfOk, Ok, codes, true};
+ghost use Rattle.std.specs.Prelude.{◌≡◌, ◌≢◌, ◌<◌, ◌+◌, ◌⊎◌, ◌^◌, length, IfOk, codes, true};
 ghost use Rattle.std.specs.Io.KnownBytes.{Appends};
 ghost use Rattle.sd_base.specs.Causes.{Rose};
 ghost use Rattle.sd_base.specs.Written.{AppendsFront};
-ghost use Rattle.std.specs.Option.{option_copied, option_map_or};
-ghost use Rattle.sd_layout.specs.Faults.{first_bad_by, has_few_servers};
-ghost use Rattle.sd_layout.specs.Blocks.{statements_of};
+ghost use Rattle.std.specs.Option.{option_copied};
+ghost use Rattle.sd_layout.specs.Blocks.{bytes_left};
+ghost use Rattle.sd_layout.specs.Faults.{has_few_servers};
 ghost use Rattle.sd_layout.specs.Seen.{head_seen};
 ghost use Rattle.sd_scenario.specs.Endings as endings;
-ghost use Rattle.sd_scenario.specs.Transcript.{transcript_by};
 
 use crate::runs::{Printed, run};
 use sd_base::{Bytes, Memory, Sink, WriteFault, write_all};
@@ -82,8 +81,8 @@ fn ending_of_run(printed: Printed) -> Ending
 /// The end of a scenario whose head gives a configuration.
 fn ending_behind(alloc: Global, head: &Head<'_>, config: Config) -> Result<Ending, Memory>
     requires few { has_few_servers config ≡ true }
-    requires room { head.now.number + option_map_or (λ bytes. length bytes + 1) (option_copied head.now.body) 0 < 2 ^ 33 }
-    ensures { IfOk result (λ ending. ending ≡ endings.ending_by_bad (first_bad_by (head_seen head.now) (Ok config)) (transcript_by (Ok config) (statements_of (head_seen head.now).number (head_seen head.now).body))) }
+    requires room { head.now.number + bytes_left (option_copied head.now.body) < 2 ^ 33 }
+    ensures { IfOk result (λ ending. ending ≡ endings.ending_behind (head_seen head.now) config) }
 {
     if let Some(number) = first_bad_behind(alloc, head, &config)? {
         return ending_at_line(alloc, number);

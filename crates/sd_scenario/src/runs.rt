@@ -1,7 +1,7 @@
 // A scenario's lines, carried out one after the other.
-ghost use Rattle.std.specs.Prelude.{◌≡◌, ◌+◌, ◌<◌, ◌^◌, ◌++◌, length, IfOk, OnOk, Ok, not, true, false};
-ghost use Rattle.std.specs.Option.{option_copied, option_map_or};
-ghost use Rattle.sd_layout.specs.Blocks.{statements_of};
+ghost use Rattle.std.specs.Prelude.{◌≡◌, ◌+◌, ◌<◌, ◌^◌, ◌++◌, IfOk, OnOk, Ok, not, true, false};
+ghost use Rattle.std.specs.Option.{option_copied};
+ghost use Rattle.sd_layout.specs.Blocks.{bytes_left, statements_of};
 ghost use Rattle.sd_layout.specs.Faults.{has_few_servers};
 ghost use Rattle.sd_lines.specs.Words as words;
 ghost use Rattle.sd_scenario.specs.Transcript as script;
@@ -28,7 +28,7 @@ fn do_lines(
     first: u64,
     body: Option<&[u8]>,
 ) -> Result<bool, Memory>
-    requires room { first + option_map_or (λ bytes. length bytes + 1) (option_copied body) 0 < 2 ^ 33 }
+    requires room { first + bytes_left (option_copied body) < 2 ^ 33 }
     requires bounded { (script.transcript_on world.old (statements_of first (words.pieces_in 10 (option_copied body)))).is_endless ≡ false }
     ensures { IfOk result (λ whole. script.transcript_on world.old (statements_of first (words.pieces_in 10 (option_copied body.entry)))
         ≡ record { text = world.new.printed; is_full = not whole; is_endless = false }) }
@@ -60,7 +60,7 @@ pub fn run(
     body: Option<&[u8]>,
 ) -> Result<Printed, Memory>
     requires few { has_few_servers config ≡ true }
-    requires room { first + option_map_or (λ bytes. length bytes + 1) (option_copied body) 0 < 2 ^ 33 }
+    requires room { first + bytes_left (option_copied body) < 2 ^ 33 }
     ensures printed { IfOk result (λ printed. let transcript = script.transcript_by (Ok config) (statements_of first (words.pieces_in 10 (option_copied body.entry))) in
         (printed.text ≡ transcript.text) × (printed.is_full ≡ transcript.is_full)) }
 

@@ -284,8 +284,8 @@ impl World {
 
     /// Makes a task that checks an account.
     fn check(&mut self, user: Text, service: Text) -> Result<(), Stop>
-        requires bounded { tasks.is_bounded (script.task_made self.old (courses.check (record { user = user; service = service; mode = self.old.site.config.settings.access }))) ≡ true }
-        ensures done { let done = script.task_made self.old (courses.check (record { user = user; service = service; mode = self.old.site.config.settings.access })) in MatchResult result (λ _. done ≡ Ok self.new) (λ stop. Halts stop done self.new.printed) }
+        requires bounded { tasks.is_bounded (script.task_made self.old (courses.check (script.check_words self.old user service))) ≡ true }
+        ensures done { let done = script.task_made self.old (courses.check (script.check_words self.old user service)) in MatchResult result (λ _. done ≡ Ok self.new) (λ stop. Halts stop done self.new.printed) }
     {
         let mode = self.site.config().settings.access;
         self.make_task(ClientTask::check(user, service, mode))

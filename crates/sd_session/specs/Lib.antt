@@ -6,3 +6,4 @@ pub mod Stepping
 pub mod Running
 pub mod Withdrawing
 pub mod Desks
+pub mod Solo

@@ -2,12 +2,15 @@
 use Rattle.std.specs.Prelude.{◌≡◌, ◌≢◌, ◌⊎◌, ℕ, ◌≤◌, Bool, true, false, List, [], ◌++◌, length, Option, Some, None, IfSome}
 use Rattle.std.specs.Io.KnownBytes.{Appends, Consumes, IsAtEnd}
 use Rattle.sd_base.specs.Causes.{Rose}
+use Rattle.sd_base.specs.declared.io.Sink as sinks
+use Rattle.sd_base.specs.declared.io.Source as sources
 use Rattle.sd_rules.specs.declared.events.Event.{Event}
 use Rattle.sd_rules.specs.declared.replies.Entry.{Entry}
 use Rattle.sd_rules.specs.declared.replies.Given.{Given}
 use Rattle.sd_rules.specs.Steps.{Daemon, is_full, full_count}
 use Rattle.sd_conf.specs.declared.config.Config.{Config}
 use Rattle.sd_dial.specs.Operations.{Operation}
+use Rattle.sd_dial.specs.declared.dialer.Dialer as dialers
 use Rattle.sd_inquiry.specs.Counting.{HasNotFallen}
 use Rattle.sd_rules.specs.declared.keys.Key.{Key}
 use Rattle.sd_rules.specs.declared.tasks.Bound.TheVariants as bounds
@@ -24,7 +27,7 @@ use Rattle.sd_engine.specs.declared.ending.SessionEnd.{SessionEnd}
 use Rattle.sd_engine.specs.declared.ending.SessionEnd.TheVariants as ends
 use Rattle.sd_engine.specs.Engines.{Engine, replied}
 use Rattle.sd_engine.specs.Leading.{about, leads_after, ticket_after}
-use Rattle.sd_engine.specs.Turns.{Dialling}
+use Rattle.sd_engine.specs.Turns.{Dialling, dialling_of}
 use Rattle.sd_session.specs.Holding.{is_told}
 use Rattle.sd_session.specs.Closing.{Accounts, AreLed, NoneReserved}
 use Rattle.sd_session.specs.Sessions.{Company, Move, Stand, Trace, AllMay, TracesOn, stand_after, frames_of, last_stops, CountsFalls}
@@ -228,6 +231,10 @@ pub record RanTo (w : Company) (seed : List ℕ) (config : Config) (d : Daemon) 
 abbrev pub outside_at : Option (List ℕ) → Option (List ℕ) → Trace → ℕ → ℕ → Dialling → Outside
 outside_at left held trace reads writes dialling = record { left = left; held = held; trace = trace; reads = reads; writes = writes; dialling = dialling }
 
+-- the outside of a session over a source, a sink and a dialer that has made these own steps
+abbrev pub outside_of : {S W D Line : Type 0} → sources.Ghosts S → sinks.Ghosts W → dialers.Ghosts D Line → S → W → D → Trace → Outside
+outside_of r w t source sink dialer trace = outside_at (r.left source) (w.held sink) trace (r.faults source) (w.faults sink) (dialling_of t dialer)
+
 -- the same with other own steps
 abbrev pub tracing : Outside → Trace → Outside
 tracing o trace = record { left = o.left; held = o.held; trace = trace; reads = o.reads; writes = o.writes; dialling = o.dialling }
@@ -264,3 +271,8 @@ EndsIn w seed config ending e daemon o f daemon' p = (d : Daemon) (before : Outs
 abbrev pub Turned : Company → List ℕ → Config → Option SessionEnd → Engine → Daemon → Outside → Engine → Daemon → Outside → Type 0
 Turned w seed config None e daemon o f daemon' p = GoesOn w seed config e daemon o f daemon' p
 Turned w seed config (Some ending) e daemon o f daemon' p = EndsIn w seed config ending e daemon o f daemon' p
+
+-- own steps go on, or end the session, whatever else is told of the outside
+abbrev pub TurnedBySteps : Company → Option SessionEnd → Engine → Daemon → Trace → Engine → Daemon → Trace → Type 0
+TurnedBySteps w ending e daemon trace f daemon' trace' =
+    (seed : List ℕ) (config : Config) (o : Outside) → Turned w seed config ending e daemon (tracing o trace) f daemon' (tracing o trace')

@@ -6,7 +6,6 @@ ghost use Rattle.sd_desk.specs.Steps.{MayStep, MadeEntry, FullAfterForget};
 ghost use Rattle.sd_past.specs.Closing.{closes_place};
 ghost use Rattle.sd_session.specs.Closing.{IsOver};
 ghost use Rattle.sd_session.specs.Desks as desks;
-ghost use Rattle.sd_session.specs.Stepping as stepping;
 
 use crate::stepping::end_of;
 use sd_clock::Clock;
@@ -114,8 +113,8 @@ pub fn step<R: Wait, C: Clock>(
     ensures own { IsOwn desk.now seat.new }
     ensures free { HoldsNoTurn seat.new }
     ensures same { IsSameSeat seat.old seat.new }
-    ensures made { IfOk result (λ given. stepping.IsMade desks.at_desk (front desk.now seat.old) event given (front desk.now seat.new) (desks.trace_at (C.readings clock.old) seat.old) (desks.trace_at (C.readings clock.new) seat.new)) }
-    ensures refused { IfErr result (λ end. stepping.IsRefused desks.at_desk (front desk.now seat.old) event end (front desk.now seat.new) (desks.trace_at (C.readings clock.old) seat.old) (desks.trace_at (C.readings clock.new) seat.new)) }
+    ensures made { IfOk result (λ given. desks.MakesStep C.Clock desk.now event given seat.old clock.old seat.new clock.new) }
+    ensures refused { IfErr result (λ end. desks.RefusesStep C.Clock desk.now event end seat.old clock.old seat.new clock.new) }
     ensures over { OnErr result (IsOver (front desk.now seat.old) (front desk.now seat.new) event) }
     ensures full { IfErr result (λ end. (n : ℕ) → end ≡ SessionEnd.JournalFull n → FullAfterForget (front desk.now seat.old) (front desk.now seat.new) event n) }
 {
@@ -149,8 +148,8 @@ pub fn try_collect<R: Wait, C: Clock>(
     ensures own { IsOwn desk.now seat.new }
     ensures free { HoldsNoTurn seat.new }
     ensures same { IsSameSeat seat.old seat.new }
-    ensures made { IfOk result (λ given. stepping.IsMade desks.at_desk (front desk.now seat.old) (Event.Collect ticket) given (front desk.now seat.new) (desks.trace_at (C.readings clock.old) seat.old) (desks.trace_at (C.readings clock.new) seat.new)) }
-    ensures waited { OnErr result (stepping.IsWaited desks.at_desk (front desk.now seat.old) (front desk.now seat.new) (desks.trace_at (C.readings clock.old) seat.old) (desks.trace_at (C.readings clock.new) seat.new)) }
+    ensures made { IfOk result (λ given. desks.MakesStep C.Clock desk.now (Event.Collect ticket) given seat.old clock.old seat.new clock.new) }
+    ensures waited { OnErr result (desks.MakesNoStep C.Clock desk.now seat.old clock.old seat.new clock.new) }
 {
     let now = clock.now();
     match desk.collect(seat, now, ticket) {

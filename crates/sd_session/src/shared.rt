@@ -1,10 +1,9 @@
 //! A session over a desk, at a seat of its own.
-ghost use Rattle.std.specs.Prelude.{◌≡◌, ℕ, List, true, false};
+ghost use Rattle.std.specs.Prelude.{◌≡◌, true};
 ghost use Rattle.std.specs.Option.{ForSome};
 ghost use Rattle.sd_rules.specs.declared.events.Event.TheVariants as events;
 ghost use Rattle.sd_rules.specs.Reaching.{Reaches};
-ghost use Rattle.sd_conf.specs.declared.config.Config.{Config as ConfigValue};
-ghost use Rattle.sd_desk.specs.Desks.{front, config_of, salts_of, IsOwn, HoldsNoTurn, IsSameSeat};
+ghost use Rattle.sd_desk.specs.Desks.{front, IsOwn, HoldsNoTurn, IsSameSeat};
 ghost use Rattle.sd_engine.specs.Engines as engines;
 ghost use Rattle.sd_session.specs.Desks as desks;
 ghost use Rattle.sd_session.specs.Closing.{GivesUp};
@@ -42,7 +41,7 @@ fn carry_out<R: Wait, C: Clock>(
     ensures own { IsOwn desk.now seat.new }
     ensures free { HoldsNoTurn seat.new }
     ensures same { IsSameSeat seat.old seat.new }
-    ensures turned { (seed : List ℕ) (config : ConfigValue) (o : running.Outside) → running.Turned desks.at_desk seed config result engine.old (front desk.now seat.old) (running.tracing o (desks.trace_at (C.readings clock.old) seat.old)) engine.new (front desk.now seat.new) (running.tracing o (desks.trace_at (C.readings clock.new) seat.new)) }
+    ensures turned { desks.StepsOn C.Clock desk.now result engine.old seat.old clock.old engine.new seat.new clock.new }
 {
     match step(rt, desk, seat, clock, event) {
         Ok(given) => tell(engine, given),
@@ -65,7 +64,7 @@ fn collect<R: Wait, C: Clock>(
     ensures own { IsOwn desk.now seat.new }
     ensures free { HoldsNoTurn seat.new }
     ensures same { IsSameSeat seat.old seat.new }
-    ensures turned { (seed : List ℕ) (config : ConfigValue) (o : running.Outside) → running.Turned desks.at_desk seed config result engine.old (front desk.now seat.old) (running.tracing o (desks.trace_at (C.readings clock.old) seat.old)) engine.new (front desk.now seat.new) (running.tracing o (desks.trace_at (C.readings clock.new) seat.new)) }
+    ensures turned { desks.StepsOn C.Clock desk.now result engine.old seat.old clock.old engine.new seat.new clock.new }
 {
     for _ in rt.forever() {
         match try_collect(rt, desk, seat, clock, ticket) {
@@ -100,7 +99,9 @@ fn turn<R: Wait, S: Source, W: Sink, D: Dialer, C: Clock, G: Gate>(
     ensures own { IsOwn desk.now seat.new }
     ensures free { HoldsNoTurn seat.new }
     ensures same { IsSameSeat seat.old seat.new }
-    ensures turned { running.Turned desks.at_desk salts.now config.now result engine.old (front desk.now seat.old) (running.outside_at (S.left source.old) (W.held sink.old) (desks.trace_at (C.readings clock.old) seat.old) (S.faults source.old) (W.faults sink.old) (record { operations = D.operations dialer.old; received = D.received dialer.old; faults = D.faults dialer.old; behind = D.behind dialer.old })) engine.new (front desk.now seat.new) (running.outside_at (S.left source.new) (W.held sink.new) (desks.trace_at (C.readings clock.new) seat.new) (S.faults source.new) (W.faults sink.new) (record { operations = D.operations dialer.new; received = D.received dialer.new; faults = D.faults dialer.new; behind = D.behind dialer.new })) }
+    ensures turned { desks.Turned S.Source W.Sink D.Dialer C.Clock desk.now salts.now config.now result
+        engine.old seat.old source.old sink.old dialer.old clock.old
+        engine.new seat.new source.new sink.new dialer.new clock.new }
 {
     match engine.turn(config, salts, source, sink, dialer, gate) {
         Turn::Again => None,
@@ -130,7 +131,9 @@ fn run<R: Wait, S: Source, W: Sink, D: Dialer, C: Clock, G: Gate>(
     ensures own { IsOwn desk.now seat.new }
     ensures free { HoldsNoTurn seat.new }
     ensures same { IsSameSeat seat.old seat.new }
-    ensures ran { running.RanTo desks.at_desk salts.now config.now (front desk.now seat.old) (running.outside_at (S.left source.old) (W.held sink.old) (desks.trace_at (C.readings clock.old) seat.old) (S.faults source.old) (W.faults sink.old) (record { operations = D.operations dialer.old; received = D.received dialer.old; faults = D.faults dialer.old; behind = D.behind dialer.old })) result engine.new (front desk.now seat.new) (running.outside_at (S.left source.new) (W.held sink.new) (desks.trace_at (C.readings clock.new) seat.new) (S.faults source.new) (W.faults sink.new) (record { operations = D.operations dialer.new; received = D.received dialer.new; faults = D.faults dialer.new; behind = D.behind dialer.new })) }
+    ensures ran { desks.RanTo S.Source W.Sink D.Dialer C.Clock desk.now salts.now config.now result
+        seat.old source.old sink.old dialer.old clock.old
+        engine.new seat.new source.new sink.new dialer.new clock.new }
 {
     for round in 0..u64::MAX {
         forget_where_grown(rt, desk, seat);
@@ -160,7 +163,7 @@ fn give_up<R: Wait, C: Clock>(
     ensures own { IsOwn desk.now seat.new }
     ensures free { HoldsNoTurn seat.new }
     ensures same { IsSameSeat seat.old seat.new }
-    ensures withdraws { withdrawing.MayWithdraw desks.at_desk (withdrawing.is_abrupt end) (front desk.now seat.old) (front desk.now seat.new) (desks.trace_at (C.readings clock.old) seat.old) (desks.trace_at (C.readings clock.new) seat.new) }
+    ensures withdraws { desks.MayWithdraw C.Clock desk.now end seat.old clock.old seat.new clock.new }
     ensures gives_up { withdrawing.is_abrupt end ≡ true → GivesUp (front desk.now seat.old) (front desk.now seat.new) engine.now.leads engine.now.ticket }
 {
     if !is_abrupt(end) {
@@ -188,7 +191,9 @@ pub fn session<R: Wait, S: Source, W: Sink, D: Dialer, C: Clock, G: Gate>(
     ensures own { IsOwn desk.now result.0 }
     ensures free { HoldsNoTurn result.0 }
     ensures same { IsSameSeat seat result.0 }
-    ensures session { withdrawing.Session desks.at_desk (salts_of desk.now) (config_of desk.now) (front desk.now seat) (running.outside_at (S.left source.old) (W.held sink.old) (desks.trace_at (C.readings clock.old) seat) (S.faults source.old) (W.faults sink.old) (record { operations = D.operations dialer.old; received = D.received dialer.old; faults = D.faults dialer.old; behind = D.behind dialer.old })) result.1 (front desk.now result.0) (running.outside_at (S.left source.new) (W.held sink.new) (desks.trace_at (C.readings clock.new) result.0) (S.faults source.new) (W.faults sink.new) (record { operations = D.operations dialer.new; received = D.received dialer.new; faults = D.faults dialer.new; behind = D.behind dialer.new })) }
+    ensures session { desks.Session S.Source W.Sink D.Dialer C.Clock desk.now result.1
+        seat source.old sink.old dialer.old clock.old
+        result.0 source.new sink.new dialer.new clock.new }
     // The journal handed back is one that the journal handed in became.
     ensures reaches { Reaches (front desk.now seat) (front desk.now result.0) }
 {

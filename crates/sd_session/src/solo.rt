@@ -1,14 +1,13 @@
 //! A session over a core of its own.
-ghost use Rattle.std.specs.Prelude.{◌≡◌, ℕ, List, [], true, false, IfSome, Some, None};
+ghost use Rattle.std.specs.Prelude.{◌≡◌, true};
 ghost use Rattle.std.specs.Option.{ForSome};
 ghost use Rattle.sd_rules.specs.declared.events.Event.TheVariants as events;
 ghost use Rattle.sd_core.specs.Growth as growth;
-ghost use Rattle.sd_conf.specs.declared.config.Config.{Config as ConfigValue};
 ghost use Rattle.sd_session.specs.Spoken.{IsSpoken};
 ghost use Rattle.sd_engine.specs.Engines as engines;
 ghost use Rattle.sd_session.specs.Closing.{GivesUp};
 ghost use Rattle.sd_session.specs.Running as running;
-ghost use Rattle.sd_session.specs.Sessions as sessions;
+ghost use Rattle.sd_session.specs.Solo as solo;
 ghost use Rattle.sd_session.specs.Withdrawing as withdrawing;
 
 use crate::stepping::step;
@@ -32,7 +31,7 @@ fn carry_out<C: Clock>(
     event: Event,
 ) -> Option<SessionEnd>
     requires { running.Awaits core.old engine.old event }
-    ensures turned { (seed : List ℕ) (config : ConfigValue) (o : running.Outside) → running.Turned sessions.alone seed config result engine.old core.old (running.tracing o (sessions.trace_of (C.readings clock.old) core.old)) engine.new core.new (running.tracing o (sessions.trace_of (C.readings clock.new) core.new)) }
+    ensures turned { solo.StepsOn C.Clock result engine.old core.old clock.old engine.new core.new clock.new }
     ensures grown { growth.KeepsGrown core.old core.new }
 {
     match step(core, clock, event) {
@@ -49,7 +48,7 @@ fn collect<C: Clock>(
     ticket: u64,
 ) -> Option<SessionEnd>
     requires { running.Awaits core.old engine.old (events.Collect ticket) }
-    ensures turned { (seed : List ℕ) (config : ConfigValue) (o : running.Outside) → running.Turned sessions.alone seed config result engine.old core.old (running.tracing o (sessions.trace_of (C.readings clock.old) core.old)) engine.new core.new (running.tracing o (sessions.trace_of (C.readings clock.new) core.new)) }
+    ensures turned { solo.StepsOn C.Clock result engine.old core.old clock.old engine.new core.new clock.new }
     ensures grown { growth.KeepsGrown core.old core.new }
 {
     carry_out(core, engine, clock, Event::Collect(ticket))
@@ -67,7 +66,9 @@ fn turn<S: Source, W: Sink, D: Dialer, C: Clock>(
     clock: &mut C,
 ) -> Option<SessionEnd>
     requires { ForSome engine.old.client (λ client. IsSpoken core.old client.course) }
-    ensures turned { running.Turned sessions.alone salts.now config.now result engine.old core.old (running.outside_at (S.left source.old) (W.held sink.old) (sessions.trace_of (C.readings clock.old) core.old) (S.faults source.old) (W.faults sink.old) (record { operations = D.operations dialer.old; received = D.received dialer.old; faults = D.faults dialer.old; behind = D.behind dialer.old })) engine.new core.new (running.outside_at (S.left source.new) (W.held sink.new) (sessions.trace_of (C.readings clock.new) core.new) (S.faults source.new) (W.faults sink.new) (record { operations = D.operations dialer.new; received = D.received dialer.new; faults = D.faults dialer.new; behind = D.behind dialer.new })) }
+    ensures turned { solo.Turned S.Source W.Sink D.Dialer C.Clock salts.now config.now result
+        engine.old core.old source.old sink.old dialer.old clock.old
+        engine.new core.new source.new sink.new dialer.new clock.new }
     ensures grown { growth.KeepsGrown core.old core.new }
 {
     match engine.turn(config, salts, source, sink, dialer, &OpenGate) {
@@ -90,7 +91,9 @@ fn run<S: Source, W: Sink, D: Dialer, C: Clock>(
     clock: &mut C,
 ) -> SessionEnd
     requires { engine.old ≡ engines.begun }
-    ensures ran { running.RanTo sessions.alone salts.now config.now core.old (running.outside_at (S.left source.old) (W.held sink.old) (sessions.trace_of (C.readings clock.old) core.old) (S.faults source.old) (W.faults sink.old) (record { operations = D.operations dialer.old; received = D.received dialer.old; faults = D.faults dialer.old; behind = D.behind dialer.old })) result engine.new core.new (running.outside_at (S.left source.new) (W.held sink.new) (sessions.trace_of (C.readings clock.new) core.new) (S.faults source.new) (W.faults sink.new) (record { operations = D.operations dialer.new; received = D.received dialer.new; faults = D.faults dialer.new; behind = D.behind dialer.new })) }
+    ensures ran { solo.RanTo S.Source W.Sink D.Dialer C.Clock salts.now config.now result
+        core.old source.old sink.old dialer.old clock.old
+        engine.new core.new source.new sink.new dialer.new clock.new }
     ensures grown { growth.KeepsGrown core.old core.new }
 {
     for round in 0..u64::MAX {
@@ -106,7 +109,7 @@ fn run<S: Source, W: Sink, D: Dialer, C: Clock>(
 #[tactic(auto, using(crate::proofs::GivingUp::may_withdraw, crate::proofs::GivingUp::keeps_all))]
 /// Gives up what a session leads and waits with, where its end leaves something.
 fn give_up<C: Clock>(core: &mut Core, engine: &Engine, clock: &mut C, end: SessionEnd)
-    ensures withdraws { withdrawing.MayWithdraw sessions.alone (withdrawing.is_abrupt end) core.old core.new (sessions.trace_of (C.readings clock.old) core.old) (sessions.trace_of (C.readings clock.new) core.new) }
+    ensures withdraws { solo.MayWithdraw C.Clock end core.old clock.old core.new clock.new }
     ensures gives_up { withdrawing.is_abrupt end ≡ true → GivesUp core.old core.new engine.now.leads engine.now.ticket }
     ensures grown { growth.KeepsGrown core.old core.new }
 {
@@ -128,7 +131,9 @@ pub fn solo_session<S: Source, W: Sink, D: Dialer, C: Clock>(
     dialer: &mut D,
     clock: &mut C,
 ) -> SessionEnd
-    ensures session { withdrawing.Session sessions.alone salts.now config.now core.old (running.outside_at (S.left source.old) (W.held sink.old) (sessions.trace_of (C.readings clock.old) core.old) (S.faults source.old) (W.faults sink.old) (record { operations = D.operations dialer.old; received = D.received dialer.old; faults = D.faults dialer.old; behind = D.behind dialer.old })) result core.new (running.outside_at (S.left source.new) (W.held sink.new) (sessions.trace_of (C.readings clock.new) core.new) (S.faults source.new) (W.faults sink.new) (record { operations = D.operations dialer.new; received = D.received dialer.new; faults = D.faults dialer.new; behind = D.behind dialer.new })) }
+    ensures session { solo.Session S.Source W.Sink D.Dialer C.Clock salts.now config.now result
+        core.old source.old sink.old dialer.old clock.old
+        core.new source.new sink.new dialer.new clock.new }
     // The new journal is the old one, followed by entries that each have the number, the moment and the reply that the rules give.
     ensures journal { growth.IsGrown core.old core.new }
 {

@@ -1,5 +1,5 @@
 -- The bytes of replies.
-use Rattle.std.specs.Prelude.{ℕ, ◌-◌, Bool, List, [], ◌∷◌, if◌then◌else◌, flat_map, Option, Some, None}
+use Rattle.std.specs.Prelude.{◌≡◌, ℕ, ◌-◌, Bool, List, [], ◌∷◌, ◌++◌, if◌then◌else◌, flat_map, Option, Some, None}
 use Rattle.std.specs.List.{list_any}
 use Rattle.sd_ldap.specs.declared.entry.DirEntry.{DirEntry}
 use Rattle.sd_ldap.specs.Values.{SearchValue, entry, done, bind_response}
@@ -30,6 +30,10 @@ next_bytes is id s e = if is then entry_reply id s e else []
 abbrev pub next_left : Bool → ℕ → ℕ
 next_left is left = if is then left - 1 else left
 
+-- an entry is put behind the bytes where the search finds it, and one less is still to be put
+abbrev pub PutsNext : ℕ → SearchValue → DirEntry → List ℕ → List ℕ → ℕ → ℕ → Type 0
+PutsNext id s e old new left after = (new ≡ old ++ next_bytes (is_found s e) id s e) × (after ≡ next_left (is_found s e) left)
+
 -- the same of what is at a place
 abbrev pub bytes_at : Option DirEntry → ℕ → SearchValue → List ℕ
 bytes_at (Some e) id s = next_bytes (is_found s e) id s e
@@ -38,6 +42,10 @@ bytes_at None id s = []
 abbrev pub left_at : Option DirEntry → SearchValue → ℕ → ℕ
 left_at (Some e) s left = next_left (is_found s e) left
 left_at None s left = left
+
+-- the same of what is at a place
+abbrev pub PutsAt : ℕ → SearchValue → Option DirEntry → List ℕ → List ℕ → ℕ → ℕ → Type 0
+PutsAt id s at old new left after = (new ≡ old ++ bytes_at at id s) × (after ≡ left_at at s left)
 
 abbrev pub search_bytes : List DirEntry → ℕ → SearchValue → List ℕ
 search_bytes entries id s = flat_map message_bytes (search_replies entries id s)

@@ -2,6 +2,7 @@
 use Rattle.std.specs.Prelude.{◌≡◌, ℕ, ◌≤◌, List, ◌++◌, length}
 use Rattle.std.specs.declared.option.Option.{Option}
 use Rattle.std.specs.Io.KnownBytes.{Appends, Consumes, IsAtEnd}
+use Rattle.sd_base.specs.Causes.{Rose}
 use Rattle.sd_base.specs.Written.{AppendsFront}
 use Rattle.sd_ldap.specs.declared.entry.DirEntry.{DirEntry}
 use Rattle.sd_stub.specs.declared.ending.LinkEnd.{LinkEnd}
@@ -33,6 +34,11 @@ pub record Served (entries : List DirEntry) (ending : LinkEnd) (left left' held 
   pub consumed : Consumes left left' taken
   pub short : length taken ≤ 1073741825
   pub ended : EndsBy entries ending taken left' held held' reads writes
+
+-- the same, by what a source tells of its bytes and its faults, and a sink of what it holds and its faults
+abbrev pub ServedOver : {S W : Type 0} → (S → Option (List ℕ)) → (S → ℕ) → (W → Option (List ℕ)) → (W → ℕ) → List DirEntry → LinkEnd → S → S → W → W → Type 0
+ServedOver left reads held writes entries ending source source' sink sink' =
+    Served entries ending (left source) (left source') (held sink) (held sink') (Rose (reads source) (reads source')) (Rose (writes sink) (writes sink'))
 
 -- By all the input: its end and all its answers, or a front of these at a fault or for want of memory.
 abbrev pub IsToldEnd : List DirEntry → LinkEnd → List ℕ → Option (List ℕ) → Option (List ℕ) → Type 0

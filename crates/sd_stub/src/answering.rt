@@ -8,7 +8,7 @@ ghost use Rattle.sd_match.specs.Answering.{told, is_found, found, found_replies,
 ghost use Rattle.sd_stub.specs.Covers.{AreEnough, picked, at_slot, present};
 ghost use Rattle.sd_stub.specs.Index.{IsIndex};
 ghost use Rattle.sd_stub.specs.Naming.{AreNamed};
-ghost use Rattle.sd_stub.specs.Replying.{bytes_at, left_at, entry_reply, entries_bytes, done_bytes, alone_bytes, bind_bytes, next_bytes, next_left, supported_bytes, search_bytes};
+ghost use Rattle.sd_stub.specs.Replying.{PutsNext, PutsAt, entry_reply, entries_bytes, done_bytes, alone_bytes, bind_bytes, supported_bytes, search_bytes};
 
 use crate::binding::bind_code;
 use crate::index::Index;
@@ -79,7 +79,7 @@ fn put_next(
 ) -> Result<usize, Memory>
     requires base { base.now ≡ spelled request.now.base }
     requires left { 0 < left }
-    ensures { IfOk result (λ after. (out.new.items ≡ out.old.items ++ next_bytes (is_found (search_value request.now) placed.now) id (search_value request.now) placed.now) × (after ≡ next_left (is_found (search_value request.now) placed.now) left)) }
+    ensures { IfOk result (λ after. PutsNext id (search_value request.now) placed.now out.old.items out.new.items left after) }
 {
     if !is_found(placed, request, base) {
         return Ok(left);
@@ -102,7 +102,7 @@ fn put_at(
 ) -> Result<usize, Memory>
     requires base { base.now ≡ spelled request.now.base }
     requires left { 0 < left }
-    ensures { IfOk result (λ after. (out.new.items ≡ out.old.items ++ bytes_at (at_slot slots.now place) id (search_value request.now)) × (after ≡ left_at (at_slot slots.now place) (search_value request.now) left)) }
+    ensures { IfOk result (λ after. PutsAt id (search_value request.now) (at_slot slots.now place) out.old.items out.new.items left after) }
 {
     match slots.get(place) {
         Some(Some(placed)) => put_next(alloc, out, id, request, placed, base, left),

@@ -1,9 +1,8 @@
 //! The directory as a server of one link.
 ghost use Rattle.std.specs.Prelude.{◌≡◌, ℕ, ◌+◌, ◌≤◌, IfSome};
-ghost use Rattle.sd_base.specs.Causes.{Rose};
 ghost use Rattle.sd_stub.specs.Saying.{ended_of};
 ghost use Rattle.sd_stub.specs.Passing.{IsBadAt};
-ghost use Rattle.sd_stub.specs.Serving.{Served, IsToldEnd};
+ghost use Rattle.sd_stub.specs.Serving.{ServedOver, IsToldEnd};
 
 use crate::directory::Directory;
 use crate::ending::LinkEnd;
@@ -44,7 +43,7 @@ pub fn serve_link<S: Source, W: Sink>(
     // Of a source that tells its bytes: the input decides the end and the answers, however it is cut.
     ensures told { IfSome (S.left source.old) (λ input. IsToldEnd directory.now result input (W.held sink.old) (W.held sink.new)) }
     // Of every source there are bytes that decide the same; where it tells its bytes they are those that were taken.
-    ensures served { Served directory.now result (S.left source.old) (S.left source.new) (W.held sink.old) (W.held sink.new) (Rose (S.faults source.old) (S.faults source.new)) (Rose (W.faults sink.old) (W.faults sink.new)) }
+    ensures served { ServedOver S.left S.faults W.held W.faults directory.now result source.old source.new sink.old sink.new }
     ensures reads_later { S.faults source.old ≤ S.faults source.new }
     ensures writes_later { W.faults sink.old ≤ W.faults sink.new }
 {
@@ -53,7 +52,7 @@ pub fn serve_link<S: Source, W: Sink>(
 
 /// Answers message after message.
 fn serve<S: Source, W: Sink>(directory: &Directory, source: &mut S, sink: &mut W) -> LinkEnd
-    ensures served { Served directory.now result (S.left source.old) (S.left source.new) (W.held sink.old) (W.held sink.new) (Rose (S.faults source.old) (S.faults source.new)) (Rose (W.faults sink.old) (W.faults sink.new)) }
+    ensures served { ServedOver S.left S.faults W.held W.faults directory.now result source.old source.new sink.old sink.new }
     ensures reads_later { S.faults source.old ≤ S.faults source.new }
     ensures writes_later { W.faults sink.old ≤ W.faults sink.new }
 {

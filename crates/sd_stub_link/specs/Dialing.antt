@@ -1,11 +1,12 @@
 -- What contracts see of a dialer in memory, and what its calls make of it.
-use Rattle.std.specs.Prelude.{◌≡◌, ℕ, ◌+◌, ◌-◌, ◌^◌, min, nat_lt, Bool, true, false, not, ◌||◌, if◌then◌else◌, List, ◌∷◌, Option, Some, None, slice_get, ◌⊎◌}
+use Rattle.std.specs.Prelude.{◌≡◌, ℕ, ◌+◌, ◌-◌, ◌^◌, min, nat_lt, Bool, true, false, not, ◌||◌, if◌then◌else◌, List, ◌∷◌, Option, Some, None, Result, MatchResult, slice_get, ◌⊎◌}
 use Rattle.sd_ldap.specs.declared.entry.DirEntry.{DirEntry}
 use Rattle.sd_stub.specs.declared.Mode.{Mode}
 use Rattle.sd_dial.specs.Entries.{Behind}
+use Rattle.sd_dial.specs.Operations.{with_dial}
 use Rattle.sd_stub_link.specs.Modes.{is_down}
 use Rattle.sd_stub_link.specs.Standing.{Standing, made, received_of, behind_by, counted, is_listed}
-use Rattle.sd_stub_link.specs.Past.{Event, line_dialled, line_given}
+use Rattle.sd_stub_link.specs.Past.{Event, operations_of, line_dialled, line_given}
 use Rattle.sd_stub_link.specs.declared.dialer.StubServer.{StubServer}
 
 -- a server: its entries, and how it behaves
@@ -87,3 +88,8 @@ pub record IsDialled (old : Dialing) (server : ℕ) (line : Standing) (new : Dia
 abbrev pub IsUndialled : Dialing → ℕ → Dialing → Type 0
 IsUndialled old server new =
     ((new ≡ undialled old) × ((is_dial_listed old ≡ true) ⊎ (takes_lines (slice_get old.servers server) ≡ false))) ⊎ (new ≡ undialled_starving old)
+
+-- a dial that was made is told behind the operations so far, and one that failed is not told
+abbrev pub TellsDial : {A E : Type 0} → Result A E → ℕ → Dialing → Dialing → Type 0
+TellsDial result server old new =
+    MatchResult result (λ _. Some (operations_of new.past) ≡ with_dial (Some (operations_of old.past)) server) (λ _. Some (operations_of new.past) ≡ Some (operations_of old.past))

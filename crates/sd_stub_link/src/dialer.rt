@@ -1,9 +1,9 @@
 //! A dialer in memory of links to directories.
-ghost use Rattle.std.specs.Prelude.{◌≡◌, ℕ, ◌+◌, ◌<◌, ◌≤◌, ◌||◌, true, false, List, [], ◌∷◌, map, slice_get, IfOk, OnOk, OnErr, IfSome, MatchOption, MatchResult, IsSome, Option, Some, None};
+ghost use Rattle.std.specs.Prelude.{◌≡◌, ℕ, ◌+◌, ◌<◌, ◌≤◌, ◌||◌, true, false, List, [], ◌∷◌, map, slice_get, IfOk, OnOk, OnErr, IfSome, MatchOption, IsSome, Option, Some, None};
 ghost use Rattle.sd_base.specs.Causes.{HasCause, Rose};
-ghost use Rattle.sd_dial.specs.Operations.{with_dial, with_asked, with_received};
+ghost use Rattle.sd_dial.specs.Operations.{with_asked, with_received};
 ghost use Rattle.sd_stub_link.specs.Asking.{messages_of};
-ghost use Rattle.sd_stub_link.specs.Dialing.{Dialing, served, is_dial_listed, takes_lines, behind_at, line_to, dialled_at, undialled, undialled_starving, given_back, IsDialled, IsUndialled};
+ghost use Rattle.sd_stub_link.specs.Dialing.{Dialing, served, is_dial_listed, takes_lines, behind_at, line_to, dialled_at, undialled, undialled_starving, given_back, TellsDial, IsDialled, IsUndialled};
 ghost use Rattle.sd_stub_link.specs.Modes.{is_down};
 ghost use Rattle.sd_stub_link.specs.Past.{operations_of, lines_received};
 ghost use Rattle.sd_stub_link.specs.Standing.{coming_of, received_of, behind_of};
@@ -186,7 +186,7 @@ impl<'a> Dialer for StubDialer<'a> {
 
     #[tactic(auto, unfolding(crate::specs::Asking::messages_of))]
     fn dial(&mut self, server: u32) -> Result<StubLine<'a>, LinkFailed>
-        ensures operations { MatchResult result (λ _. Some (operations_of self.new.past) ≡ with_dial (Some (operations_of self.old.past)) server) (λ _. Some (operations_of self.new.past) ≡ Some (operations_of self.old.past)) }
+        ensures operations { TellsDial result server self.old self.new }
         ensures received { Some (lines_received self.new.past) ≡ Some (lines_received self.old.past) }
         ensures behind { (i : ℕ) → behind_at self.new i ≡ behind_at self.old i }
         ensures nothing_asked { IfOk result (λ line. IfSome (Some (messages_of line.pieces)) (λ messages. messages ≡ [])) }

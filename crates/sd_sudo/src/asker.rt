@@ -1,5 +1,6 @@
 //! Who asks: a user, and the groups that the user is in.
 ghost use Rattle.std.specs.Prelude.{◌≡◌, ◌⊎◌, ◌++◌, ◌∷◌, IfOk, IfErr, OnOk};
+ghost use Rattle.std.specs.Option.{option_copied};
 ghost use Rattle.sd_rules.specs.declared.keys.Key.TheVariants as keys;
 ghost use Rattle.sd_stub.specs.Keeping.{kept};
 ghost use Rattle.sd_sudo.specs.Listing.{listed};
@@ -7,37 +8,46 @@ ghost use Rattle.sd_sudo.specs.Lookups.{HaltsBy, Meets, Passes};
 ghost use Rattle.sd_sudo.specs.Askers as askers;
 
 use crate::lookups::{Halt, look_up};
-use sd_base::{Copied, Memory, Numbers, Text, Texts};
+use sd_base::{Copied, Memory, Numbers, Shared, Text, Texts};
 use sd_conf::Config;
 use sd_ldap::DirEntry;
 use sd_roles::Asker;
 use sd_rules::{Group, GroupRefs, Key, Record, User};
 use std::alloc::Global;
 
-fn user_in(found: Option<Record>) -> Option<User>
-    ensures { result ≡ askers.user_in found }
+fn record_in(found: Option<&Shared<Record>>) -> Option<&Record>
+    ensures { option_copied result ≡ option_copied found.entry }
 {
     match found {
-        Some(Record::User(user)) => Some(user),
-        _ => None,
+        Some(found) => Some(found.value()),
+        None => None,
     }
 }
 
-fn groups_in(alloc: Global, found: Option<Record>) -> GroupRefs
-    ensures { result ≡ askers.groups_in found }
+fn user_in(found: Option<&Record>) -> Result<Option<User>, Memory>
+    ensures { IfOk result (λ user. user ≡ askers.user_in (option_copied found.entry)) }
 {
     match found {
-        Some(Record::Groups(groups)) => groups.groups,
-        _ => GroupRefs::new(alloc),
+        Some(Record::User(user)) => Ok(Some(user.copy()?)),
+        _ => Ok(None),
     }
 }
 
-fn group_in(found: Option<Record>) -> Option<Group>
-    ensures { result ≡ askers.group_in found }
+fn groups_in(alloc: Global, found: Option<&Record>) -> Result<GroupRefs, Memory>
+    ensures { IfOk result (λ groups. groups ≡ askers.groups_in (option_copied found.entry)) }
 {
     match found {
-        Some(Record::Group(group)) => Some(group),
-        _ => None,
+        Some(Record::Groups(groups)) => groups.groups.copy(),
+        _ => Ok(GroupRefs::new(alloc)),
+    }
+}
+
+fn group_in(found: Option<&Record>) -> Result<Option<Group>, Memory>
+    ensures { IfOk result (λ group. group ≡ askers.group_in (option_copied found.entry)) }
+{
+    match found {
+        Some(Record::Group(group)) => Ok(Some(group.copy()?)),
+        _ => Ok(None),
     }
 }
 
@@ -53,7 +63,8 @@ pub fn user_named(
 {
     let key = Key::User(name.copy()?);
     let found = look_up(alloc, config, entries, &key)?;
-    Ok(user_in(found))
+    let user = user_in(record_in(found.as_ref()))?;
+    Ok(user)
 }
 
 /// The groups that the user of a name is in by paths of members.
@@ -68,7 +79,8 @@ fn groups_of(
 {
     let key = Key::GroupsOf(name.copy()?);
     let found = look_up(alloc, config, entries, &key)?;
-    Ok(groups_in(alloc, found))
+    let groups = groups_in(alloc, record_in(found.as_ref()))?;
+    Ok(groups)
 }
 
 /// The one group of a number.
@@ -82,7 +94,8 @@ fn group_of(
     ensures halt { IfErr result (λ halt. HaltsBy halt (Meets config.now (kept entries.now) (keys.Gid gid))) }
 {
     let found = look_up(alloc, config, entries, &Key::Gid(gid))?;
-    Ok(group_in(found))
+    let group = group_in(record_in(found.as_ref()))?;
+    Ok(group)
 }
 
 fn push_number(numbers: &mut Numbers, number: Option<u32>) -> Result<(), Memory>

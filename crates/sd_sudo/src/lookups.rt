@@ -3,7 +3,7 @@ ghost use Rattle.std.specs.Prelude.{◌≡◌, IfOk, IfErr};
 ghost use Rattle.sd_stub.specs.Keeping.{kept};
 ghost use Rattle.sd_sudo.specs.Lookups as lookups;
 
-use sd_base::Memory;
+use sd_base::{Memory, Shared};
 use sd_conf::Config;
 use sd_ldap::DirEntry;
 use sd_provider::{ShortDirectory, fetched_at};
@@ -31,7 +31,7 @@ impl From<Memory> for Halt {
 }
 
 /// What a lookup found, where it is one thing.
-fn found_or_halt(fetched: Fetched) -> Result<Option<Record>, Halt>
+fn found_or_halt(fetched: Fetched) -> Result<Option<Shared<Record>>, Halt>
     ensures { result ≡ lookups.found_or_halt fetched }
 {
     match fetched {
@@ -51,7 +51,7 @@ pub fn look_up(
     config: &Config,
     entries: &[DirEntry],
     key: &Key,
-) -> Result<Option<Record>, Halt>
+) -> Result<Option<Shared<Record>>, Halt>
     ensures found { IfOk result (λ found. lookups.Passes config.now (kept entries.now) key.now × (found ≡ lookups.found_for config.now (kept entries.now) key.now)) }
     ensures halt { IfErr result (λ halt. lookups.HaltsBy halt (lookups.Meets config.now (kept entries.now) key.now)) }
 {

@@ -6,7 +6,7 @@ ghost use Rattle.sd_ldap.specs.Values.{search_value};
 ghost use Rattle.sd_ldap.specs.declared.entry.DirEntry.{DirEntry as DirEntryValue};
 ghost use Rattle.sd_roles.specs.Roles.{role_of};
 ghost use Rattle.sd_dial.specs.Rooms.{are_short};
-ghost use Rattle.sd_fetch.specs.Exchanging.{Telling, Exchange, Went};
+ghost use Rattle.sd_fetch.specs.Exchanging.{telling, searched_as, Went};
 ghost use Rattle.sd_stub.specs.declared.Mode.TheVariants as modes;
 ghost use Rattle.sd_stub_link.specs.Distinct.{have_own_dns};
 ghost use Rattle.sd_stub_link.specs.Standing.{made};
@@ -54,7 +54,7 @@ fn read_roles(alloc: Global, entries: &[DirEntry]) -> Result<Vec<Role>, Memory>
 /// Searches once.
 fn ask<L: DirectoryLink>(client: &mut Client<L>, request: &SearchRequest) -> Searched
     requires { IsSoundSearch (search_value request.now) }
-    ensures { Went (record { sent = L.sent; asked = L.asked; received = L.received; coming = L.coming; answer = L.answer; behind = L.behind; faults = L.faults; refuses = L.refuses; ends = L.ends }) client.old (record { search = search_value request.now; searched = result }) client.new }
+    ensures { Went (telling L.DirectoryLink) client.old (searched_as (search_value request.now) result) client.new }
 {
     search(client, request)
 }

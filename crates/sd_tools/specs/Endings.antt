@@ -1,11 +1,12 @@
 -- How a tool ends: its status and what it writes.
-use Rattle.std.specs.Prelude.{◌≡◌, ◌⊎◌, ℕ, codes, List, [], Option, Some, None, Result, Err}
+use Rattle.std.specs.Prelude.{◌≡◌, ◌≢◌, ◌⊎◌, ℕ, codes, true, List, [], Option, Some, None, Result, Err}
 use Rattle.sd_tools.specs.Queries.{first_line}
 use Rattle.sd_tools.specs.declared.endings.TheConstants.{DONE, USAGE, READ_FAULT, WRITE_FAULT, NO_MEMORY, TOO_LONG, NO_DAEMON, BAD_REPLY}
 use Rattle.sd_tools.specs.declared.links.TalkFault.{TalkFault}
 use Rattle.sd_tools.specs.declared.links.TalkFault.TheVariants as faults
 use Rattle.sd_tools.specs.declared.queries.Query.{Query}
 use Rattle.sd_tools.specs.declared.queries.Query.TheVariants as queries
+use Rattle.sd_wire.specs.Frames.{is_sound}
 use Rattle.sd_wire.specs.declared.requests.Request.{Request}
 use Rattle.sd_wire.specs.declared.requests.Request.TheVariants as requests
 
@@ -55,3 +56,7 @@ OfWords (Some query) input P = OfQuery query input P
 abbrev pub OfOptions : Option (List Request) → (List Request → Type 0) → Type 0
 OfOptions None P = Unit {0}
 OfOptions (Some requests) P = P requests
+
+-- the request is within its limits, unless the status is that of a fault of the sink or of want of memory
+abbrev pub IsSoundUnlessFailed : ℕ → Request → Type 0
+IsSoundUnlessFailed status request = status ≢ WRITE_FAULT → status ≢ NO_MEMORY → is_sound request ≡ true

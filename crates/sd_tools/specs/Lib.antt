@@ -3,3 +3,4 @@ pub mod Options
 pub mod Replies
 pub mod Lines
 pub mod Endings
+pub mod Words

@@ -4,6 +4,8 @@ use Rattle.std.specs.declared.option.Option.{Option}
 use Rattle.std.specs.Option.{option_map}
 use Rattle.std.specs.Int.{w32, from_be_bytes}
 use Rattle.std.specs.Io.KnownBytes.{Appends, append_known}
+use Rattle.sd_base.specs.declared.io.Sink as sinks
+use Rattle.sd_link.specs.declared.link.Link as links
 use Rattle.sd_wire.specs.Frames.{frame_of, reply_of, is_sound}
 use Rattle.sd_wire.specs.declared.requests.Request.{Request}
 use Rattle.sd_tools.specs.declared.links.TheConstants.{LONGEST_REPLY}
@@ -85,3 +87,29 @@ pub record FindsBadReply (requests : List Request) (before now : Told) (held hel
   pub texts : List (List ℕ)
   pub ends : EndsInNoReply requests texts before now
   pub printed : Appends held held_now (lines_of texts ++ codes "bad reply\n")
+
+-- ---- the same over links and sinks, which tell t and w
+
+-- what a link tells
+abbrev pub told_by : {L : Type 0} → links.Ghosts L → L → Told
+told_by t link = told (t.sent link) (t.received link)
+
+-- each of the requests was sent over the link, and answered by the reply with its text
+abbrev pub AreAnsweredOver : {L : Type 0} → links.Ghosts L → List Request → List (List ℕ) → L → L → Type 0
+AreAnsweredOver t requests texts before now = AreAnswered requests texts (told_by t before) (told_by t now)
+
+-- some of the requests were sent over the link, the first before the others, and no other piece
+abbrev pub IsFrontSentOver : {L : Type 0} → links.Ghosts L → List Request → L → L → Type 0
+IsFrontSentOver t requests before now = IsFrontSent requests (told_by t before) (told_by t now)
+
+-- fewer requests than there are were answered over the link by replies with these texts, and then came what begins no reply
+abbrev pub EndsInNoReplyOver : {L : Type 0} → links.Ghosts L → List Request → List (List ℕ) → L → L → Type 0
+EndsInNoReplyOver t requests texts before now = EndsInNoReply requests texts (told_by t before) (told_by t now)
+
+-- each request was answered over the link, and the texts of the replies were printed to the sink
+abbrev pub IsDoneOver : {L W : Type 0} → links.Ghosts L → sinks.Ghosts W → List Request → L → L → W → W → Type 0
+IsDoneOver t w requests before now sink sink_now = IsDone requests (told_by t before) (told_by t now) (w.held sink) (w.held sink_now)
+
+-- the replies so far were printed to the sink, and then that what came next over the link begins no reply
+abbrev pub FindsBadReplyOver : {L W : Type 0} → links.Ghosts L → sinks.Ghosts W → List Request → L → L → W → W → Type 0
+FindsBadReplyOver t w requests before now sink sink_now = FindsBadReply requests (told_by t before) (told_by t now) (w.held sink) (w.held sink_now)

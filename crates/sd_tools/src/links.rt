@@ -127,9 +127,9 @@ pub fn ask_all<L: Link>(
 ) -> Result<(), TalkFault>
     requires sound { replies.AreSound requests.now }
     requires empty { texts.old ≡ [] }
-    ensures answered { OnOk result (replies.AreAnswered requests.now texts.new (replies.told (L.sent link.old) (L.received link.old)) (replies.told (L.sent link.new) (L.received link.new))) }
-    ensures front { replies.IsFrontSent requests.now (replies.told (L.sent link.old) (L.received link.old)) (replies.told (L.sent link.new) (L.received link.new)) }
-    ensures no_reply { result ≡ Err TalkFault.BadReply → replies.EndsInNoReply requests.now texts.new (replies.told (L.sent link.old) (L.received link.old)) (replies.told (L.sent link.new) (L.received link.new)) }
+    ensures answered { OnOk result (replies.AreAnsweredOver L.Link requests.now texts.new link.old link.new) }
+    ensures front { replies.IsFrontSentOver L.Link requests.now link.old link.new }
+    ensures no_reply { result ≡ Err TalkFault.BadReply → replies.EndsInNoReplyOver L.Link requests.now texts.new link.old link.new }
     ensures failed { result ≡ Err TalkFault.Link → Rose (L.faults link.old) (L.faults link.new) }
     ensures fewer { result ≡ Err TalkFault.Link → length texts.new < length requests.now }
 {

@@ -6,6 +6,7 @@ ghost use Rattle.sd_tools.specs.Endings as endings;
 ghost use Rattle.sd_tools.specs.Options as options;
 ghost use Rattle.sd_tools.specs.Queries as queries;
 ghost use Rattle.sd_tools.specs.Replies as replies;
+ghost use Rattle.sd_tools.specs.Words.{IsQueryDone, IsQuerySent, QueryFindsBadReply, IsCacheDone, IsCacheSent, CacheFindsNoDaemon, CacheFindsBadReply};
 ghost use Rattle.sd_wire.specs.Frames.{is_sound};
 
 use crate::endings::{
@@ -40,10 +41,10 @@ pub fn has_form_of_cache(alloc: Global, words: &[String]) -> Result<bool, Memory
 fn talk<W: Sink, L: Link>(alloc: Global, requests: &[Request], sink: &mut W, link: &mut L) -> Status
     requires { replies.AreSound requests.now }
     ensures status { endings.IsTalkStatus result }
-    ensures done { result ≡ DONE → replies.IsDone requests.now (replies.told (L.sent link.old) (L.received link.old)) (replies.told (L.sent link.new) (L.received link.new)) (W.held sink.old) (W.held sink.new) }
-    ensures front { replies.IsFrontSent requests.now (replies.told (L.sent link.old) (L.received link.old)) (replies.told (L.sent link.new) (L.received link.new)) }
+    ensures done { result ≡ DONE → replies.IsDoneOver L.Link W.Sink requests.now link.old link.new sink.old sink.new }
+    ensures front { replies.IsFrontSentOver L.Link requests.now link.old link.new }
     ensures no_daemon { result ≡ NO_DAEMON → Rose (L.faults link.old) (L.faults link.new) × replies.FindsNoDaemon requests.now (W.held sink.old) (W.held sink.new) }
-    ensures bad_reply { result ≡ BAD_REPLY → replies.FindsBadReply requests.now (replies.told (L.sent link.old) (L.received link.old)) (replies.told (L.sent link.new) (L.received link.new)) (W.held sink.old) (W.held sink.new) }
+    ensures bad_reply { result ≡ BAD_REPLY → replies.FindsBadReplyOver L.Link W.Sink requests.now link.old link.new sink.old sink.new }
     ensures write_fault { result ≡ WRITE_FAULT → Rose (W.faults sink.old) (W.faults sink.new) }
     ensures no_memory { result ≡ NO_MEMORY → sink.new ≡ sink.old }
 {
@@ -74,10 +75,10 @@ fn request_for<S: Source>(alloc: Global, query: Query, source: &mut S) -> Result
 fn ask_one<W: Sink, L: Link>(alloc: Global, request: Request, sink: &mut W, link: &mut L) -> Status
     requires { is_sound request ≡ true }
     ensures status { endings.IsTalkStatus result }
-    ensures done { result ≡ DONE → replies.IsDone (request ∷ []) (replies.told (L.sent link.old) (L.received link.old)) (replies.told (L.sent link.new) (L.received link.new)) (W.held sink.old) (W.held sink.new) }
-    ensures front { replies.IsFrontSent (request ∷ []) (replies.told (L.sent link.old) (L.received link.old)) (replies.told (L.sent link.new) (L.received link.new)) }
+    ensures done { result ≡ DONE → replies.IsDoneOver L.Link W.Sink (request ∷ []) link.old link.new sink.old sink.new }
+    ensures front { replies.IsFrontSentOver L.Link (request ∷ []) link.old link.new }
     ensures no_daemon { result ≡ NO_DAEMON → Rose (L.faults link.old) (L.faults link.new) × Appends (W.held sink.old) (W.held sink.new) endings.no_daemon }
-    ensures bad_reply { result ≡ BAD_REPLY → replies.FindsBadReply (request ∷ []) (replies.told (L.sent link.old) (L.received link.old)) (replies.told (L.sent link.new) (L.received link.new)) (W.held sink.old) (W.held sink.new) }
+    ensures bad_reply { result ≡ BAD_REPLY → replies.FindsBadReplyOver L.Link W.Sink (request ∷ []) link.old link.new sink.old sink.new }
     ensures write_fault { result ≡ WRITE_FAULT → Rose (W.faults sink.old) (W.faults sink.new) }
     ensures no_memory { result ≡ NO_MEMORY → sink.new ≡ sink.old }
 {
@@ -94,9 +95,9 @@ fn ask_query<S: Source, W: Sink, L: Link>(
 ) -> Status
     requires { queries.is_sound_query query ≡ true }
     ensures status { endings.IsAskStatus result }
-    ensures done { result ≡ DONE → endings.OfQuery query (S.left source.old) (λ request. replies.IsDone (request ∷ []) (replies.told (L.sent link.old) (L.received link.old)) (replies.told (L.sent link.new) (L.received link.new)) (W.held sink.old) (W.held sink.new)) }
-    ensures front { endings.OfQuery query (S.left source.old) (λ request. replies.IsFrontSent (request ∷ []) (replies.told (L.sent link.old) (L.received link.old)) (replies.told (L.sent link.new) (L.received link.new))) }
-    ensures within { endings.IsTalkStatus result → endings.OfQuery query (S.left source.old) (λ request. result ≢ WRITE_FAULT → result ≢ NO_MEMORY → is_sound request ≡ true) }
+    ensures done { result ≡ DONE → endings.OfQuery query (S.left source.old) (λ request. replies.IsDoneOver L.Link W.Sink (request ∷ []) link.old link.new sink.old sink.new) }
+    ensures front { endings.OfQuery query (S.left source.old) (λ request. replies.IsFrontSentOver L.Link (request ∷ []) link.old link.new) }
+    ensures within { endings.IsTalkStatus result → endings.OfQuery query (S.left source.old) (λ request. endings.IsSoundUnlessFailed result request) }
     ensures unread { queries.needs_password query ≡ false → source.new ≡ source.old }
     ensures read_fault { result ≡ READ_FAULT → Rose (S.faults source.old) (S.faults source.new) × (sink.new ≡ sink.old) × (link.new ≡ link.old) }
     ensures too_long { result ≡ TOO_LONG → (queries.needs_password query ≡ true)
@@ -104,7 +105,7 @@ fn ask_query<S: Source, W: Sink, L: Link>(
         × (link.new ≡ link.old)
         × Appends (W.held sink.old) (W.held sink.new) endings.too_long }
     ensures no_daemon { result ≡ NO_DAEMON → Rose (L.faults link.old) (L.faults link.new) × Appends (W.held sink.old) (W.held sink.new) endings.no_daemon }
-    ensures bad_reply { result ≡ BAD_REPLY → endings.OfQuery query (S.left source.old) (λ request. replies.FindsBadReply (request ∷ []) (replies.told (L.sent link.old) (L.received link.old)) (replies.told (L.sent link.new) (L.received link.new)) (W.held sink.old) (W.held sink.new)) }
+    ensures bad_reply { result ≡ BAD_REPLY → endings.OfQuery query (S.left source.old) (λ request. replies.FindsBadReplyOver L.Link W.Sink (request ∷ []) link.old link.new sink.old sink.new) }
     ensures write_fault { result ≡ WRITE_FAULT → Rose (W.faults sink.old) (W.faults sink.new) }
     ensures no_memory { result ≡ NO_MEMORY → sink.new ≡ sink.old }
 {
@@ -128,10 +129,10 @@ pub fn query<S: Source, W: Sink, L: Link>(
     ensures status { endings.IsStatusOfQuery result }
 
     // The frame of the words was sent, no other piece, and the text of the reply was printed.
-    ensures done { result ≡ DONE → endings.OfWords (queries.query_of (map string_bytes words.now)) (S.left source.old) (λ request. replies.IsDone (request ∷ []) (replies.told (L.sent link.old) (L.received link.old)) (replies.told (L.sent link.new) (L.received link.new)) (W.held sink.old) (W.held sink.new)) }
+    ensures done { result ≡ DONE → IsQueryDone L.Link W.Sink (map string_bytes words.now) (S.left source.old) link.old link.new sink.old sink.new }
 
     // Whatever the status, nothing but the frame of the words was sent.
-    ensures front { endings.OfWords (queries.query_of (map string_bytes words.now)) (S.left source.old) (λ request. replies.IsFrontSent (request ∷ []) (replies.told (L.sent link.old) (L.received link.old)) (replies.told (L.sent link.new) (L.received link.new))) }
+    ensures front { IsQuerySent L.Link (map string_bytes words.now) (S.left source.old) link.old link.new }
 
     // The words have no form: nothing is read or sent, and `usage` is written, where the sink takes it.
     ensures usage { result ≡ USAGE → (queries.query_of (map string_bytes words.now) ≡ None) × Appends (W.held sink.old) (W.held sink.new) endings.usage }
@@ -150,13 +151,13 @@ pub fn query<S: Source, W: Sink, L: Link>(
         × IfSome (S.left source.old) (λ input. LONGEST_PASSWORD < length (queries.first_line input))
         × (link.new ≡ link.old)
         × Appends (W.held sink.old) (W.held sink.new) endings.too_long }
-    ensures within { endings.IsTalkStatus result → endings.OfWords (queries.query_of (map string_bytes words.now)) (S.left source.old) (λ request. result ≢ WRITE_FAULT → result ≢ NO_MEMORY → is_sound request ≡ true) }
+    ensures within { endings.IsTalkStatus result → endings.OfWords (queries.query_of (map string_bytes words.now)) (S.left source.old) (λ request. endings.IsSoundUnlessFailed result request) }
 
     // The link failed in this call, or its peer ended it. `no daemon` is written.
     ensures no_daemon { result ≡ NO_DAEMON → Rose (L.faults link.old) (L.faults link.new) × Appends (W.held sink.old) (W.held sink.new) endings.no_daemon }
 
     // What was received begins no reply. `bad reply` is written.
-    ensures bad_reply { result ≡ BAD_REPLY → endings.OfWords (queries.query_of (map string_bytes words.now)) (S.left source.old) (λ request. replies.FindsBadReply (request ∷ []) (replies.told (L.sent link.old) (L.received link.old)) (replies.told (L.sent link.new) (L.received link.new)) (W.held sink.old) (W.held sink.new)) }
+    ensures bad_reply { result ≡ BAD_REPLY → QueryFindsBadReply L.Link W.Sink (map string_bytes words.now) (S.left source.old) link.old link.new sink.old sink.new }
 
     // The sink failed in this call, or took nothing of a nonempty piece.
     ensures write_fault { result ≡ WRITE_FAULT → Rose (W.faults sink.old) (W.faults sink.new) }
@@ -182,10 +183,10 @@ pub fn cache<W: Sink, L: Link>(
     ensures status { endings.IsStatusOfCache result }
 
     // The frames of the options were sent, in the order E, u, U, g, G, no other piece, and the texts of the replies were printed.
-    ensures done { result ≡ DONE → endings.OfOptions (options.requests_of (map string_bytes words.now)) (λ requests. replies.IsDone requests (replies.told (L.sent link.old) (L.received link.old)) (replies.told (L.sent link.new) (L.received link.new)) (W.held sink.old) (W.held sink.new)) }
+    ensures done { result ≡ DONE → IsCacheDone L.Link W.Sink (map string_bytes words.now) link.old link.new sink.old sink.new }
 
     // Whatever the status, some of these frames were sent, the first before the others, and nothing else.
-    ensures front { endings.OfOptions (options.requests_of (map string_bytes words.now)) (λ requests. replies.IsFrontSent requests (replies.told (L.sent link.old) (L.received link.old)) (replies.told (L.sent link.new) (L.received link.new))) }
+    ensures front { IsCacheSent L.Link (map string_bytes words.now) link.old link.new }
 
     // The words have no form: nothing is sent, and `usage` is written, where the sink takes it.
     ensures usage { result ≡ USAGE → (options.requests_of (map string_bytes words.now) ≡ None) × Appends (W.held sink.old) (W.held sink.new) endings.usage }
@@ -194,10 +195,10 @@ pub fn cache<W: Sink, L: Link>(
 
     // The link failed in this call, or its peer ended it, before the last reply was whole. The replies before that are written,
     // and then `no daemon`.
-    ensures no_daemon { result ≡ NO_DAEMON → Rose (L.faults link.old) (L.faults link.new) × endings.OfOptions (options.requests_of (map string_bytes words.now)) (λ requests. replies.FindsNoDaemon requests (W.held sink.old) (W.held sink.new)) }
+    ensures no_daemon { result ≡ NO_DAEMON → Rose (L.faults link.old) (L.faults link.new) × CacheFindsNoDaemon W.Sink (map string_bytes words.now) sink.old sink.new }
 
     // What was received behind the replies before begins no reply. Those are written, and then `bad reply`.
-    ensures bad_reply { result ≡ BAD_REPLY → endings.OfOptions (options.requests_of (map string_bytes words.now)) (λ requests. replies.FindsBadReply requests (replies.told (L.sent link.old) (L.received link.old)) (replies.told (L.sent link.new) (L.received link.new)) (W.held sink.old) (W.held sink.new)) }
+    ensures bad_reply { result ≡ BAD_REPLY → CacheFindsBadReply L.Link W.Sink (map string_bytes words.now) link.old link.new sink.old sink.new }
 
     // The sink failed in this call, or took nothing of a nonempty piece.
     ensures write_fault { result ≡ WRITE_FAULT → Rose (W.faults sink.old) (W.faults sink.new) }

@@ -65,19 +65,31 @@ returns-in_err-services-clause-sought g c =
     (asked_ok t c.args.client.now (first_search c.args.config.now keys.Rules) c.in_ok-entries.entries c.seek.new.client c.in_ok-entries.ensures)
     (asked_ok t c.seek.new.client (services_search c.args.config.now.base) c.in_ok-others.others c.seek_services.new.client c.in_ok-others.ensures))
 
+pub returns-in_err-fetched-clause-sought : goal.returns-in_err-fetched-clause-sought
+returns-in_err-fetched-clause-sought g c =
+    let t : Telling _ = record { sent = g.L.Link.sent; asked = g.L.DirectoryLink.asked; received = g.L.Link.received; coming = g.L.Link.coming; answer = g.L.Link.answer; behind = g.L.DirectoryLink.behind; faults = g.L.Link.faults; refuses = g.L.Link.refuses; ends = g.L.Link.ends } in
+    let p = err_from_is_err_and c.from_residual-in_err-fetched.result c.from_residual-in_err-fetched.ensures.1 in
+    subst (λ (r : Result Fetched Early). Sought t c.args.config.now keys.Rules c.args.client.now r c.seek_services.new.client) (sym (p.1 ∙ ap (λ (e : Early). Err e) p.2))
+    (sought_unread t c.args.config.now c.args.client.now c.seek.new.client c.seek_services.new.client c.in_ok-entries.entries c.in_ok-others.others
+    (asked_ok t c.args.client.now (first_search c.args.config.now keys.Rules) c.in_ok-entries.entries c.seek.new.client c.in_ok-entries.ensures)
+    (asked_ok t c.seek.new.client (services_search c.args.config.now.base) c.in_ok-others.others c.seek_services.new.client c.in_ok-others.ensures))
+
 pub returns-clause-sought : goal.returns-clause-sought
 returns-clause-sought g c =
     let t : Telling _ = record { sent = g.L.Link.sent; asked = g.L.DirectoryLink.asked; received = g.L.Link.received; coming = g.L.Link.coming; answer = g.L.Link.answer; behind = g.L.DirectoryLink.behind; faults = g.L.Link.faults; refuses = g.L.Link.refuses; ends = g.L.Link.ends } in
-    sought_rules t c.args.config.now c.args.client.now c.seek.new.client c.seek_services.new.client c.in_ok-entries.entries c.in_ok-others.others c.in_ok-rules.rules c.in_ok-services.services
+    subst (λ (fetched : Fetched). Sought t c.args.config.now keys.Rules c.args.client.now (Ok fetched) c.seek_services.new.client) (sym c.in_ok-fetched.ensures)
+    (sought_rules t c.args.config.now c.args.client.now c.seek.new.client c.seek_services.new.client c.in_ok-entries.entries c.in_ok-others.others c.in_ok-rules.rules c.in_ok-services.services
     (asked_ok t c.args.client.now (first_search c.args.config.now keys.Rules) c.in_ok-entries.entries c.seek.new.client c.in_ok-entries.ensures)
     (asked_ok t c.seek.new.client (services_search c.args.config.now.base) c.in_ok-others.others c.seek_services.new.client c.in_ok-others.ensures)
-    (c.in_ok-rules.ensures ∙ ap (rules_among c.args.config.now) c.items.ensures) (c.in_ok-services.ensures ∙ ap (services_among c.args.config.now) c.items-2.ensures)
+    (c.in_ok-rules.ensures ∙ ap (rules_among c.args.config.now) c.items.ensures) (c.in_ok-services.ensures ∙ ap (services_among c.args.config.now) c.items-2.ensures))
 
 pub returns-clause-told : goal.returns-clause-told
 returns-clause-told g c = λ b is quiet.
     let t : Telling _ = record { sent = g.L.Link.sent; asked = g.L.DirectoryLink.asked; received = g.L.Link.received; coming = g.L.Link.coming; answer = g.L.Link.answer; behind = g.L.DirectoryLink.behind; faults = g.L.Link.faults; refuses = g.L.Link.refuses; ends = g.L.Link.ends } in
+    let p =
     told_rules t c.args.config.now c.args.client.now c.seek.new.client c.seek_services.new.client c.in_ok-entries.entries c.in_ok-others.others c.in_ok-rules.rules c.in_ok-services.services b
     (asked_ok t c.args.client.now (first_search c.args.config.now keys.Rules) c.in_ok-entries.entries c.seek.new.client c.in_ok-entries.ensures)
     (asked_ok t c.seek.new.client (services_search c.args.config.now.base) c.in_ok-others.others c.seek_services.new.client c.in_ok-others.ensures)
     (c.in_ok-rules.ensures ∙ ap (rules_among c.args.config.now) c.items.ensures) (c.in_ok-services.ensures ∙ ap (services_among c.args.config.now) c.items-2.ensures)
-    (record { is = is; quiet = quiet })
+    (record { is = is; quiet = quiet }) in
+    (p.0, c.in_ok-fetched.ensures ∙ p.1)
