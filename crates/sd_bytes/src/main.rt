@@ -17,7 +17,12 @@
 //   search BYTES           what a search comes to over a link that gives these bytes and ends, and then one more
 //   again BYTES            the same over a link that gives these bytes again and again
 //   hash SALT WORD         the text of the hash of a password with a salt in digits
+//   read TEXT              whether a text is that of a hash
+//   changes TEXT           of the texts that differ from this one, a hash's, in that one byte is one greater, those that are read: the
+//                          place of that byte, then the bytes of salt and digest that are others, each with its place and its value
 //   salt SEED N            the salt of the attempt of this number, made of a seed in digits
+//   cuts WORD BYTES        what the line of a word, one with bytes or a text alone, says of the first bytes, of none and of more up to
+//                          all but the last: from how many on it says so, and below how many that ends
 //   bind NAME WORD BYTES   what a bind comes to over a link that gives these bytes, and what was sent with the unbind behind it
 //
 // Each line is printed, and what it comes to behind it; empty lines, and those that begin with `#`, are only printed.

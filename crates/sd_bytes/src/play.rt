@@ -2,11 +2,11 @@
 use crate::dialling::print_dialled;
 use crate::directories::{directory_of, print_answer, print_served};
 use crate::elements::{print_elements, print_head, print_integer};
-use crate::hashes::{print_hash, print_salt};
+use crate::hashes::{print_changes, print_hash, print_read, print_salt};
 use crate::hex::{bytes_of, cut_word};
 use crate::links::print_link;
 use crate::messages::{print_message, print_same};
-use crate::output::print_line;
+use crate::output::{print, print_line, print_number};
 use crate::searches::{print_bind, print_searched};
 use sd_base::Memory;
 use sd_pieces::cut;
@@ -31,6 +31,59 @@ fn cut_entries(text: &[u8]) -> (&[u8], &[u8]) {
     (text, b"")
 }
 
+/// The bytes that a line gives to a word: its own behind `read`, else those of its digits.
+fn bytes_for(alloc: Global, word: &[u8], words: &[u8]) -> Result<Vec<u8>, Memory> {
+    match word {
+        b"read" => Ok(Vec::from_slice(alloc, words)?),
+        _ => bytes_of(alloc, words),
+    }
+}
+
+/// What bytes alone come to.
+fn print_of(
+    alloc: Global,
+    out: &mut Vec<u8>,
+    directory: &Directory,
+    word: &[u8],
+    bytes: &[u8],
+) -> Result<(), Memory> {
+    match word {
+        b"elements" => print_elements(alloc, out, bytes),
+        b"integer" => print_integer(alloc, out, bytes),
+        b"element" => print_head(alloc, out, bytes),
+        b"message" => print_message(alloc, out, bytes),
+        b"same" => print_same(alloc, out, bytes),
+        b"answer" => print_answer(alloc, out, directory, bytes),
+        b"search" => print_searched(alloc, out, bytes, false),
+        b"again" => print_searched(alloc, out, bytes, true),
+        b"read" => print_read(out, bytes),
+        _ => Ok(()),
+    }
+}
+
+/// What the first bytes alone come to, by how many they are, where that is not what one byte less came to.
+fn print_cuts(
+    alloc: Global,
+    out: &mut Vec<u8>,
+    directory: &Directory,
+    words: &[u8],
+) -> Result<(), Memory> {
+    let (word, words) = cut_word(words);
+    let bytes = bytes_for(alloc, word, words)?;
+    let bytes = bytes.as_slice();
+    let mut last = Vec::new(alloc);
+    for count in 0..bytes.len() {
+        let mut printed = Vec::new(alloc);
+        print_of(alloc, &mut printed, directory, word, &bytes[..count])?;
+        if printed.as_slice() != last.as_slice() {
+            print_number(alloc, out, "from", count as u64)?;
+            print(out, printed.as_slice())?;
+        }
+        last = printed;
+    }
+    print_number(alloc, out, "below", bytes.len() as u64)
+}
+
 impl Play {
     pub fn new(alloc: Global) -> Result<Play, Memory> {
         Ok(Play {
@@ -44,32 +97,26 @@ impl Play {
         out
     }
 
-    /// What bytes alone come to.
-    fn print_of(&mut self, alloc: Global, word: &[u8], words: &[u8]) -> Result<(), Memory> {
-        let bytes = bytes_of(alloc, words)?;
-        let bytes = bytes.as_slice();
-        match word {
-            b"elements" => print_elements(alloc, &mut self.out, bytes),
-            b"integer" => print_integer(alloc, &mut self.out, bytes),
-            b"element" => print_head(alloc, &mut self.out, bytes),
-            b"message" => print_message(alloc, &mut self.out, bytes),
-            b"same" => print_same(alloc, &mut self.out, bytes),
-            b"answer" => print_answer(alloc, &mut self.out, &self.directory, bytes),
-            _ => Ok(()),
-        }
-    }
-
     fn word(&mut self, alloc: Global, word: &[u8], words: &[u8]) -> Result<(), Memory> {
         match word {
             b"serve" => print_served(alloc, &mut self.out, &self.directory, words),
             b"link" => print_link(alloc, &mut self.out, &self.directory, words),
             b"dialer" => print_dialled(alloc, &mut self.out, &self.directory, words),
-            b"search" => print_searched(alloc, &mut self.out, words, false),
-            b"again" => print_searched(alloc, &mut self.out, words, true),
+            b"cuts" => print_cuts(alloc, &mut self.out, &self.directory, words),
+            b"changes" => print_changes(alloc, &mut self.out, words),
             b"hash" => print_hash(alloc, &mut self.out, words),
             b"salt" => print_salt(alloc, &mut self.out, words),
             b"bind" => print_bind(alloc, &mut self.out, words),
-            _ => self.print_of(alloc, word, words),
+            _ => {
+                let bytes = bytes_for(alloc, word, words)?;
+                print_of(
+                    alloc,
+                    &mut self.out,
+                    &self.directory,
+                    word,
+                    bytes.as_slice(),
+                )
+            }
         }
     }
 

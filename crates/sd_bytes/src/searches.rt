@@ -52,11 +52,11 @@ fn print_found(alloc: Global, out: &mut Vec<u8>, found: Searched) -> Result<(), 
 pub fn print_searched(
     alloc: Global,
     out: &mut Vec<u8>,
-    words: &[u8],
+    bytes: &[u8],
     is_endless: bool,
 ) -> Result<(), Memory> {
     let request = request_of(alloc)?;
-    let link = Canned::new(alloc, bytes_of(alloc, words)?, is_endless);
+    let link = Canned::new(alloc, Vec::from_slice(alloc, bytes)?, is_endless);
     let mut client = Client::new(alloc, link);
     let first = client.search(&request);
     let second = client.search(&request);

@@ -1,11 +1,11 @@
 // What marks say of a user's logins, where they are made of a journal.
-use crate::output::{print, print_line, print_number};
-use crate::replies::print_reply;
-use crate::words::Words;
 use sd_base::{Memory, Text};
 use sd_creds::Marks;
 use sd_journal::logins::{accepts, hash_entry, last_online_login, wrongs};
 use sd_rules::{Entry, Reply, Settings, Verdict};
+use sd_steps::output::{print, print_line, print_number};
+use sd_steps::replies::print_reply;
+use sd_steps::words::Words;
 use std::alloc::Global;
 
 /// How many wrong guesses of a user are counted.

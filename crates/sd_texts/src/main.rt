@@ -1,18 +1,22 @@
 // Reads worked texts: standard input has distinguished names, configurations and entries in LDIF, standard output gets
-// what each of them says, or why it is refused.
+// what each of them says, or why it is refused, and which records entries are.
 //
 // A line `dn TEXT` has a DN, a line `dns TEXT | TEXT` two of them. A line `conf`, `config` or `ldif` begins a block,
 // whose text runs to a line that is a dot alone, without the end of its last line; of a `config` everything is told, of
-// a `conf` whether it is read. Other lines are printed as they stand.
+// a `conf` whether it is read. So does a line `record user NAME`, `record uid N`, `record group NAME`, `record gid N` or
+// `record rule`, whose block is LDIF: of each entry it tells the name of the record that was asked for, or of the
+// attribute that does not fit. Other lines are printed as they stand.
 #![tactic(auto)]
 
 mod configs;
 mod entries;
 mod lines;
 mod names;
+mod records;
 
 use lines::{cut_block, cut_line};
 use sd_base::{Memory, ReaderSource, WriterSink, read_all, write_all};
+use sd_pieces::cut;
 use std::alloc::Global;
 use std::process::ExitCode;
 
@@ -42,6 +46,11 @@ fn print_next<'a>(alloc: Global, text: &'a [u8], out: &mut Vec<u8>) -> Result<&'
     }
     if line == b"ldif".as_slice() {
         entries::print_all(alloc, block, out)?;
+        return Ok(behind);
+    }
+    let (word, asked) = cut(b' ', line);
+    if word == b"record".as_slice() {
+        records::print_all(alloc, asked.unwrap_or(b""), block, out)?;
         return Ok(behind);
     }
     print_one(alloc, line, out)?;

@@ -1,6 +1,6 @@
 // Prints what a step gives beside its reply: the record, the hash and the rule's name.
 use crate::output::{print_number, print_word};
-use sd_base::{Memory, Text};
+use sd_base::{Memory, Shared, Text};
 use sd_rules::{Given, Hash, Record};
 
 /// Prints who or what a record is of.
@@ -20,11 +20,11 @@ pub fn print_record(out: &mut Vec<u8>, found: &Record) -> Result<(), Memory> {
     }
 }
 
-fn print_found(out: &mut Vec<u8>, found: &Option<Record>) -> Result<(), Memory> {
+fn print_found(out: &mut Vec<u8>, found: &Option<Shared<Record>>) -> Result<(), Memory> {
     match found {
         Some(found) => {
             print_word(out, b"=")?;
-            print_record(out, found)
+            print_record(out, found.value())
         }
         None => Ok(()),
     }

@@ -1,9 +1,9 @@
 // The rows of lines, as the rows that are kept are printed.
-use crate::events::{HASH, key};
-use crate::records::answered;
-use crate::words::{Words, is};
 use sd_base::Memory;
 use sd_rules::Row;
+use sd_steps::events::{HASH, key};
+use sd_steps::records::answered;
+use sd_steps::words::{Words, is};
 use std::alloc::Global;
 
 /// A row of a user, or of a server.

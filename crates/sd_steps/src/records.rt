@@ -1,6 +1,6 @@
 // The records of worked journals, told in a short form.
 use crate::words::{Words, cut, is};
-use sd_base::{Memory, Text, Texts};
+use sd_base::{Memory, Shared, Text, Texts};
 use sd_rules::{
     Answered, Element, Group, GroupRef, GroupRefs, Groups, Host, Record, Rule, RuleBook, RuleList,
     Service, ServiceList, User,
@@ -171,7 +171,8 @@ fn record(alloc: Global, words: &mut Words<'_>) -> Result<Record, Memory> {
 /// `found` and a record, or `absent`.
 pub fn answered(alloc: Global, words: &mut Words<'_>) -> Result<Answered, Memory> {
     if is(words.word(), b"found") {
-        Ok(Answered::Found(record(alloc, words)?))
+        let found = Shared::new(alloc, record(alloc, words)?)?;
+        Ok(Answered::Found(found))
     } else {
         Ok(Answered::Absent)
     }

@@ -141,6 +141,7 @@ fn print_some(out: &mut Vec<u8>, number: Option<u64>) -> Result<(), Memory> {
     }
 }
 
+/// Prints a reply, with a space before each word and number.
 pub fn print_reply(out: &mut Vec<u8>, reply: Reply) -> Result<(), Memory> {
     let parts = of_reply(reply);
     print_word(out, parts.words.as_bytes())?;

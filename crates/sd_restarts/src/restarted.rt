@@ -1,9 +1,9 @@
 // What a journal would be after a restart that keeps all that it can.
-use crate::output::{print, print_digits, print_line, print_number};
-use crate::replies::print_reply;
 use sd_base::Memory;
 use sd_keeping::{counts_fit, numbers_fit, reopened};
 use sd_rules::Entry;
+use sd_steps::output::{print, print_digits, print_line, print_number};
+use sd_steps::replies::print_reply;
 use std::alloc::Global;
 
 /// Prints the number and the moment of the next entry, and each entry's number and reply.

@@ -10,6 +10,7 @@ pub fn cut(bytes: &[u8], by: u8) -> (&[u8], &[u8]) {
     }
 }
 
+/// Whether a word is this one.
 pub fn is(word: &[u8], name: &[u8]) -> bool {
     word == name
 }
@@ -32,6 +33,7 @@ pub struct Words<'a> {
 }
 
 impl<'a> Words<'a> {
+    /// All words of a line.
     pub fn new(line: &'a [u8]) -> Words<'a> {
         Words { left: line }
     }
@@ -48,6 +50,7 @@ impl<'a> Words<'a> {
         word
     }
 
+    /// Takes a number.
     pub fn number(&mut self) -> u64 {
         value(self.word())
     }
@@ -57,6 +60,7 @@ impl<'a> Words<'a> {
         self.number().min(1_000_000) as u32
     }
 
+    /// Takes a word as a text.
     pub fn text(&mut self, alloc: Global) -> Result<Text, Memory> {
         Text::from_bytes(alloc, self.word())
     }

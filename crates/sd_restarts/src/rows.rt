@@ -1,8 +1,8 @@
 // Prints the rows that are kept of a journal, each on a line of its own.
-use crate::givens::print_record;
-use crate::output::{print, print_digits, print_number, print_word};
 use sd_base::{Memory, Text};
 use sd_rules::{Answered, Hash, Key, Row, Rows};
+use sd_steps::givens::print_record;
+use sd_steps::output::{print, print_digits, print_number, print_word};
 
 /// The kind of a key and the colon that parts it from a name.
 fn print_named(out: &mut Vec<u8>, kind: &[u8], name: &Text) -> Result<(), Memory> {
@@ -31,7 +31,7 @@ fn print_answered(out: &mut Vec<u8>, answered: &Answered) -> Result<(), Memory> 
     match answered {
         Answered::Found(found) => {
             print_word(out, b"found")?;
-            print_record(out, found)
+            print_record(out, found.value())
         }
         Answered::Absent => print_word(out, b"absent"),
     }

@@ -1,0 +1,58 @@
+// Plays rows and restarts of worked journals on both cores: standard input has settings, steps and rows, standard output gets the entries
+// and the rows that they make.
+//
+// The lines are those of sd_steps, and these. `kept` prints the rows that are kept, and `reopen` opens the cores again with them, as a
+// restart does. `row ..` has a row as `kept` prints it, and `open` opens the cores with the rows of these lines, or prints the place of
+// the first that is against the rules, counted from 0. `restarted` prints what the journal would be after a restart that keeps all that
+// it can: the number and the moment of its next entry, and each entry's number and reply.
+#![tactic(auto)]
+
+mod keeping;
+mod play;
+mod restarted;
+mod row_lines;
+mod rows;
+
+use play::Play;
+use sd_base::{Memory, ReaderSource, WriterSink, read_all, write_all};
+use sd_steps::words::cut;
+use std::alloc::Global;
+use std::process::ExitCode;
+
+/// The longest input, in bytes.
+const LIMIT: usize = 1 << 20;
+
+/// What the lines of a text print.
+fn play_all(alloc: Global, text: &[u8]) -> Result<Vec<u8>, Memory> {
+    let mut play = Play::new(alloc)?;
+    let mut left = text;
+    for _ in 0..text.len() {
+        if left.is_empty() {
+            break;
+        }
+        let (line, rest) = cut(left, b'\n');
+        play.line(alloc, line)?;
+        left = rest;
+    }
+    Ok(play.printed())
+}
+
+fn run(rt: &HostRuntime) -> u8 {
+    let alloc = rt.alloc();
+    let mut source = ReaderSource::new(rt.stdin());
+    let mut sink = WriterSink::new(rt.stdout());
+    let Ok(text) = read_all(alloc, &mut source, LIMIT) else {
+        return 3;
+    };
+    let Ok(out) = play_all(alloc, text.as_slice()) else {
+        return 7;
+    };
+    match write_all(&mut sink, out.as_slice()) {
+        Ok(()) => 0,
+        Err(_) => 4,
+    }
+}
+
+fn main(rt: HostRuntime) -> ExitCode {
+    ExitCode::from(run(&rt))
+}

@@ -1,0 +1,83 @@
+// What each line does.
+use crate::keeping::{open_rows, print_kept, reopen};
+use crate::restarted::print_restarted;
+use crate::row_lines::row;
+use sd_base::Memory;
+use sd_core::OpenFault;
+use sd_rules::Rows;
+use sd_steps::cores::Cores;
+use sd_steps::output::{print, print_line, print_number};
+use sd_steps::settings;
+use sd_steps::words::{Words, is};
+use std::alloc::Global;
+use std::mem;
+
+/// The cores, the rows with which they are opened next, and what was printed.
+#[derive(Drop)]
+pub struct Play {
+    cores: Cores,
+    rows: Rows,
+    out: Vec<u8>,
+}
+
+impl Play {
+    pub fn new(alloc: Global) -> Result<Play, Memory> {
+        let settings = settings::read(alloc, &mut Words::new(b""))?;
+        Ok(Play {
+            cores: Cores::open(alloc, settings)?,
+            rows: Rows::new(alloc),
+            out: Vec::new(alloc),
+        })
+    }
+
+    pub fn printed(self) -> Vec<u8> {
+        let Play {
+            cores: _,
+            rows: _,
+            out,
+        } = self;
+        out
+    }
+
+    /// Opens the cores with the rows of the lines before.
+    fn open(&mut self, alloc: Global) -> Result<(), OpenFault> {
+        let rows = mem::replace(&mut self.rows, Rows::new(alloc));
+        open_rows(alloc, &mut self.cores, rows)
+    }
+
+    /// Carries out a line of rows or of a restart, or one that any journal has.
+    fn play(&mut self, alloc: Global, line: &[u8]) -> Result<(), OpenFault> {
+        let mut words = Words::new(line);
+        let name = words.word();
+        if is(name, b"kept") {
+            print_kept(&self.cores, &mut self.out)?;
+        } else if is(name, b"restarted") {
+            print_restarted(alloc, &mut self.out, self.cores.core.journal())?;
+        } else if is(name, b"reopen") {
+            reopen(alloc, &mut self.cores)?;
+            print_line(&mut self.out, line)?;
+        } else if is(name, b"row") {
+            self.rows.push(row(alloc, &mut words)?)?;
+            print_line(&mut self.out, line)?;
+        } else if is(name, b"open") {
+            print_line(&mut self.out, line)?;
+            self.open(alloc)?;
+        } else {
+            self.cores.play(alloc, line, &mut self.out)?;
+        }
+        Ok(())
+    }
+
+    /// Carries out one line, and prints which row was bad where one was.
+    pub fn line(&mut self, alloc: Global, line: &[u8]) -> Result<(), Memory> {
+        match self.play(alloc, line) {
+            Ok(()) => Ok(()),
+            Err(OpenFault::BadRows(place)) => {
+                print(&mut self.out, b"bad row")?;
+                print_number(&mut self.out, u64::from(place))?;
+                print(&mut self.out, b"\n")
+            }
+            Err(OpenFault::Memory) => Err(Memory),
+        }
+    }
+}
