@@ -9,7 +9,7 @@ use crate::filing::{Answers, put_found, put_own};
 use crate::kept::{Newest, found_of};
 use crate::primed::Primed;
 use indexmap::IndexMap;
-use sd_base::{Copied, Memory};
+use sd_base::{Copied, Memory, Shared};
 use sd_rules::{Answered, Key, Record};
 use std::alloc::Global;
 use std::marker::Model;
@@ -18,6 +18,7 @@ use std::marker::Model;
 #[derive(Drop)]
 pub struct Cache {
     answers: Answers,
+    alloc: Global,
 }
 
 impl Model for Cache {
@@ -40,6 +41,7 @@ impl Cache {
     {
         Cache {
             answers: IndexMap::with_hasher(alloc, hasher),
+            alloc,
         }
     }
 
@@ -47,7 +49,7 @@ impl Cache {
     pub fn newest(&self, key: &Key) -> Option<&Newest>
         ensures { option_copied result ≡ cached.newest_in self.now key.now }
     {
-        self.answers.get(key)
+        self.answers.get(key).map(|newest| newest.value())
     }
 
     /// Keeps an answer under every key of which it speaks.
@@ -69,6 +71,7 @@ impl Cache {
             found: found_of(answered)?,
             marked,
         };
+        let newest = Shared::new(self.alloc, newest)?;
         match answered {
             Answered::Found(found) => match found.value() {
                 Record::User(user) => {
@@ -108,7 +111,7 @@ impl Cache {
 #[cfg(test)]
 mod tests {
     use super::*;
-    use sd_base::{Shared, Text};
+    use sd_base::Text;
     use sd_rules::User;
     use std::test::Fail;
 

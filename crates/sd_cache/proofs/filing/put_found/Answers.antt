@@ -15,5 +15,6 @@ returns-clause-ok c k =
     ∙ ap (λ (o : Option Newest). cond (same_key c.args.name k) (Some c.in_ok-by_name.by_name) o)
     (c.file.ensures.filed k
     ∙ ap (λ (es : List (Key × Newest)). cond (same_key c.in_ok-own.own k) (Some c.args.newest) (newest_in es k)) c.in_ok-reserve.ensures.entries
-    ∙ ap (λ (own : Key). cond (same_key own k) (Some c.args.newest) (newest_in old k)) c.in_ok-own.ensures))
+    ∙ ap (λ (own : Key). cond (same_key own k) (Some c.args.newest) (newest_in old k)) c.in_ok-own.ensures
+    ∙ ap (λ (n : Newest). cond (same_key n.own k) (Some c.args.newest) (newest_in old k)) c.value.ensures))
     ∙ three_puts (same_key c.args.newest.own k) (same_key c.args.name k) (same_key c.args.number k) c.args.newest c.args.newest c.in_ok-by_name.by_name c.in_ok-by_number.by_number (newest_in old k) refl c.in_ok-by_name.ensures c.in_ok-by_number.ensures
