@@ -111,32 +111,15 @@ fn put_indexed(entries: &mut Vec<Entry>, index: &mut Index, entry: Entry) -> Res
     }
 }
 
-/// No entries, with room for so many.
-fn room_for(alloc: Global, count: usize) -> Result<Vec<Entry>, Memory>
+/// The list for the entries that a forget keeps, with room for as many as there are and for those that close what is open.
+fn room_of(alloc: Global, entries: &[Entry], index: &Index) -> Result<Vec<Entry>, Memory>
+    requires { Indexes (reverse entries.now) index.now }
     ensures none { IfOk result (λ made. made.items ≡ []) }
-    ensures room { IfOk result (λ made. count ≤ vec_capacity made) }
+    ensures room { IfOk result (λ made. length entries.now + requests.reserved_places (reverse entries.now) ≤ vec_capacity made) }
 {
     let mut made = Vec::new(alloc);
-    made.reserve(count)?;
+    made.reserve(entries.len() + index.reserved_places())?;
     Ok(made)
-}
-
-/// The list that a forget hands back the entries in, and the list for those that are kept, with room for as many as there are and for
-/// those that close what is open.
-fn rooms(
-    alloc: Global,
-    entries: &[Entry],
-    index: &Index,
-) -> Result<(Vec<Entry>, Vec<Entry>), Memory>
-    requires { Indexes (reverse entries.now) index.now }
-    ensures none { IfOk result (λ made. made.0.items ≡ []) }
-    ensures nor { IfOk result (λ made. made.1.items ≡ []) }
-    ensures dropped { IfOk result (λ made. length entries.now ≤ vec_capacity made.0) }
-    ensures kept { IfOk result (λ made. length entries.now + requests.reserved_places (reverse entries.now) ≤ vec_capacity made.1) }
-{
-    let dropped = room_for(alloc, entries.len())?;
-    let kept = room_for(alloc, entries.len() + index.reserved_places())?;
-    Ok((dropped, kept))
 }
 
 /// Forgets the entries that no later event can look at, and hands them back. All memory is taken before an entry is moved.
@@ -156,9 +139,9 @@ fn forget_indexed(
     ensures room { HasRoom (reverse entries.new.items) (vec_capacity entries.new) }
 {
     let Plan { marks, remade } = plan_of(alloc, hasher, entries.as_slice(), index)?;
-    let (dropped, kept) = rooms(alloc, entries.as_slice(), index)?;
+    let kept = room_of(alloc, entries.as_slice(), index)?;
     let all = mem::replace(entries, Vec::new(alloc));
-    let Sifted { kept, dropped } = sift(all, marks.as_slice(), kept, dropped);
+    let Sifted { kept, dropped } = sift(all, marks.as_slice(), kept);
     *entries = kept;
     index.remake(remade);
     Ok(dropped)

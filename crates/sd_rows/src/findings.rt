@@ -7,9 +7,9 @@ use crate::voided::voids_of;
 use sd_base::Memory;
 use sd_cache::Primed;
 use sd_index::voids::Voids;
-use sd_sieve::answers::newest_marks;
-use sd_sieve::servers::{Falls, last_falls};
-use sd_sieve::users::{Users, users_of};
+use sd_sieve::outline::{Outline, outline_of};
+use sd_sieve::servers::Falls;
+use sd_sieve::users::Users;
 use sd_sieve::whole::Whole;
 use std::alloc::Global;
 
@@ -31,10 +31,12 @@ pub fn find(alloc: Global, hasher: Primed, whole: Whole<'_>) -> Result<Findings,
     requires { held.IsIndexed whole }
     ensures { IfOk result (λ made. findings.AreFound whole.entry.entries.now made) }
 {
-    let newest = newest_marks(alloc, whole)?;
+    let Outline {
+        newest,
+        users,
+        falls,
+    } = outline_of(alloc, whole)?;
     let voids = voids_of(alloc, hasher, whole.entries)?;
-    let users = users_of(alloc, whole.entries)?;
-    let falls = last_falls(alloc, whole.entries)?;
     Ok(Findings {
         newest,
         voids,

@@ -23,6 +23,13 @@ use Rattle.sd_sieve.specs.Covers.{number_for, HoldVoids, first_of, first_if, Put
 use Rattle.sd_sieve.specs.Users.{number_under}
 use Rattle.sd_sieve.specs.declared.covers.ByWhat.{ByWhat}
 
+-- where nothing is invalidated, nothing is covered
+pub none_covered : (all part : List Entry) (lasts firsts : ByWhat) → ((what : What) → number_for firsts what ≡ None) → ((what : What) → number_for lasts what ≡ None)
+    → HoldCovered all part lasts firsts
+none_covered all part lasts firsts nor none = record {
+  each = λ what. nor what ∙ sym (ap (λ (o : Option ℕ). where_last o (first_covered all what part)) (none what));
+}
+
 -- an invalidation more
 pub voids_after : (past : List Entry) (e : Entry) (what : What) (old new : ByWhat) → e.event ≡ Void what
     → ((other : What) → number_for new other ≡ cond (same_what what other) (Some e.number) (number_for old other)) → HoldVoids past old → HoldVoids (e ∷ past) new

@@ -1,12 +1,12 @@
 -- The entries that a forget keeps, one entry of the journal after another.
 use Rattle.std.proofs.Common.{◌≡◌, ℕ, ◌+◌, ◌<◌, ◌≤◌, Bool, true, false, cond, nat_lt, List, [], ◌∷◌, ◌++◌, reverse, length, get_or, take, refl, sym, ◌∙◌, ap, arith}
-use Rattle.std.proofs.lemmas.List.{reverse-append, take_more, length_push}
+use Rattle.std.proofs.lemmas.List.{reverse-append, take_more, take-take, length_push}
 use Rattle.sd_rules.specs.declared.replies.Entry.{Entry}
 use Rattle.sd_rules.specs.Needed.{is_needed, needed_among, forgotten_among}
 use Rattle.sd_index.specs.Entries.{falls, numbers_fall}
 use Rattle.sd_index.proofs.FallLaws.{head_below, tail_falls, fall_further, both_of_two, tests_less}
 use Rattle.sd_index.proofs.Halves.{numbers_before}
-use Rattle.sd_sieve.specs.Marks.{MarkNeeded}
+use Rattle.sd_sieve.specs.Marks.{marks, MarkNeeded}
 use Rattle.sd_sieve.proofs.MarkLaws.{needed_at}
 
 -- their numbers fall, too
@@ -38,21 +38,31 @@ needed_more es i e b lt at is =
     ap (λ (xs : List Entry). needed_among (reverse es) xs) (one_more es i e lt at)
     ∙ ap (λ (c : Bool). cond c (e ∷ needed_among (reverse es) (reverse (take i es))) (needed_among (reverse es) (reverse (take i es)))) (sym is)
 
--- the entries before a place are sifted, and those from it on stand where they stood
-pub record IsSifted (whole left front back : List Entry) (place : ℕ) : Type 0 where
+pub marks_more : (es : List Entry) (i : ℕ) (e : Entry) (b : Bool) (ms longer : List Bool) → i < length es → e ≡ get_or es i e → b ≡ is_needed (reverse es) (reverse (take i es)) e
+    → reverse ms ≡ marks (is_needed (reverse es)) (reverse (take i es)) → longer ≡ ms ++ b ∷ []
+    → reverse longer ≡ marks (is_needed (reverse es)) (reverse (take (i + 1) es))
+marks_more es i e b ms longer lt at is so put =
+    ap (λ (xs : List Bool). reverse xs) put
+    ∙ reverse-append ms (b ∷ [])
+    ∙ ap (λ (xs : List Bool). b ∷ xs) so
+    ∙ ap (λ (c : Bool). c ∷ marks (is_needed (reverse es)) (reverse (take i es))) is
+    ∙ sym (ap (λ (xs : List Entry). marks (is_needed (reverse es)) xs) (one_more es i e lt at))
+
+-- the entries before a place are sifted, those that are handed back stand first, and those from the place on stand where they stood
+pub record IsSifted (whole left front : List Entry) (count place : ℕ) : Type 0 where
   pub long : length left ≡ length whole
   pub rest : (j : ℕ) (d : Entry) → place ≤ j → get_or left j d ≡ get_or whole j d
   pub kept : reverse front ≡ needed_among (reverse whole) (reverse (take place whole))
-  pub dropped : reverse back ≡ forgotten_among (reverse whole) (reverse (take place whole))
-  pub count : length front + length back ≡ place
+  pub dropped : reverse (take count left) ≡ forgotten_among (reverse whole) (reverse (take place whole))
+  pub many : length front + count ≡ place
 
-pub none_sifted : (whole kept dropped : List Entry) → kept ≡ [] → dropped ≡ [] → IsSifted whole whole kept dropped 0
-none_sifted whole kept dropped none nor = record {
+pub none_sifted : (whole kept : List Entry) → kept ≡ [] → IsSifted whole whole kept 0 0
+none_sifted whole kept none = record {
   long = refl;
   rest = λ j d h. refl;
   kept = ap (λ (xs : List Entry). reverse xs) none;
-  dropped = ap (λ (xs : List Entry). reverse xs) nor;
-  count = omega (arith, ap (λ (xs : List Entry). length xs) none, ap (λ (xs : List Entry). length xs) nor);
+  dropped = refl;
+  many = omega (arith, ap (λ (xs : List Entry). length xs) none);
 }
 
 put_kept : (b : Bool) (xs ys : List Entry) (e : Entry) → reverse xs ≡ ys → reverse (cond b (xs ++ e ∷ []) xs) ≡ cond b (e ∷ ys) ys
@@ -63,23 +73,32 @@ put_dropped : (b : Bool) (xs ys : List Entry) (e : Entry) → reverse xs ≡ ys 
 put_dropped true xs ys e h = h
 put_dropped false xs ys e h = reverse-append xs (e ∷ []) ∙ ap (λ (zs : List Entry). e ∷ zs) h
 
-put_count : (b : Bool) (xs ys : List Entry) (e : Entry) (i : ℕ) → length xs + length ys ≡ i → length (cond b (xs ++ e ∷ []) xs) + length (cond b ys (ys ++ e ∷ [])) ≡ i + 1
-put_count true xs ys e i h = let more = length_push xs e in omega (arith, more)
-put_count false xs ys e i h = let more = length_push ys e in omega (arith, more)
+put_many : (b : Bool) (xs : List Entry) (e : Entry) (count i : ℕ) → length xs + count ≡ i → length (cond b (xs ++ e ∷ []) xs) + cond b count (count + 1) ≡ i + 1
+put_many true xs e count i h = let more = length_push xs e in omega (arith, more)
+put_many false xs e count i h = omega (arith, h)
 
-pub sifted_more : (whole left new kept dropped longer further : List Entry) (ms : List Bool) (i : ℕ) (e : Entry) (b d : Bool) → MarkNeeded whole ms → i < length whole
-    → IsSifted whole left kept dropped i → e ≡ get_or left i e → b ≡ get_or ms i d → length new ≡ length left
-    → ((j : ℕ) (d : Entry) → i < j → get_or new j d ≡ get_or left j d)
-    → longer ≡ cond b (kept ++ e ∷ []) kept → further ≡ cond b dropped (dropped ++ e ∷ []) → IsSifted whole new longer further (i + 1)
-sifted_more whole left new kept dropped longer further ms i e b d marks lt s taken mark long rest put other =
-    let at : e ≡ get_or whole i e = taken ∙ s.rest i e (omega arith) in
+-- what stands first stays where the entry at a place behind it is taken away
+front_stays : (left taken : List Entry) (count i : ℕ) → count ≤ i → take i taken ≡ take i left → take count taken ≡ take count left
+front_stays left taken count i few same =
+    sym (take-take count i taken few) ∙ ap (λ (xs : List Entry). take count xs) same ∙ take-take count i left few
+
+pub sifted_more : (whole left taken new kept longer : List Entry) (ms : List Bool) (count further i : ℕ) (e : Entry) (b d : Bool) → MarkNeeded whole ms → i < length whole
+    → IsSifted whole left kept count i → e ≡ get_or left i e → b ≡ get_or ms i d
+    → length taken ≡ length left → take i taken ≡ take i left → ((j : ℕ) (d : Entry) → i < j → get_or taken j d ≡ get_or left j d)
+    → longer ≡ cond b (kept ++ e ∷ []) kept → take further new ≡ cond b (take count taken) (take count taken ++ e ∷ []) → further ≡ cond b count (count + 1)
+    → length new ≡ length taken → ((j : ℕ) (d : Entry) → count < j → get_or new j d ≡ get_or taken j d)
+    → IsSifted whole new longer further (i + 1)
+sifted_more whole left taken new kept longer ms count further i e b d marks lt s got mark long before behind put other further_is same rest =
+    let at : e ≡ get_or whole i e = got ∙ s.rest i e (omega arith) in
     let is : is_needed (reverse whole) (reverse (take i whole)) e ≡ b = sym (mark ∙ needed_at whole ms i e d marks lt at) in
     let more = one_more whole i e lt at in
+    let many : length kept + count ≡ i = s.many in
+    let few : count ≤ i = omega (arith, many) in
     let ys : List Entry = needed_among (reverse whole) (reverse (take i whole)) in
     let zs : List Entry = forgotten_among (reverse whole) (reverse (take i whole)) in
     record {
-      long = long ∙ s.long;
-      rest = λ j d h. rest j d (omega arith) ∙ s.rest j d (omega arith);
+      long = same ∙ long ∙ s.long;
+      rest = λ j d h. rest j d (omega (arith, few, h)) ∙ behind j d (omega (arith, h)) ∙ s.rest j d (omega (arith, h));
       kept =
           ap (λ (xs : List Entry). reverse xs) put
           ∙ put_kept b kept ys e s.kept
@@ -87,11 +106,12 @@ sifted_more whole left new kept dropped longer further ms i e b d marks lt s tak
           ∙ sym (ap (λ (xs : List Entry). needed_among (reverse whole) xs) more);
       dropped =
           ap (λ (xs : List Entry). reverse xs) other
-          ∙ put_dropped b dropped zs e s.dropped
+          ∙ ap (λ (xs : List Entry). reverse (cond b xs (xs ++ e ∷ []))) (front_stays left taken count i few before)
+          ∙ put_dropped b (take count left) zs e s.dropped
           ∙ ap (λ (c : Bool). cond c zs (e ∷ zs)) (sym is)
           ∙ sym (ap (λ (xs : List Entry). forgotten_among (reverse whole) xs) more);
-      count =
-          ap (λ (xs : List Entry). length xs + length further) put
-          ∙ ap (λ (xs : List Entry). length (cond b (kept ++ e ∷ []) kept) + length xs) other
-          ∙ put_count b kept dropped e i s.count;
+      many =
+          ap (λ (xs : List Entry). length xs + further) put
+          ∙ ap (λ (n : ℕ). length (cond b (kept ++ e ∷ []) kept) + n) further_is
+          ∙ put_many b kept e count i many;
     }

@@ -2,7 +2,9 @@ pub mod Whole
 pub mod Marks
 pub mod Users
 pub mod Falls
+pub mod Outlines
 pub mod Covers
 pub mod Findings
+pub mod Notes
 pub mod Readings
 pub mod Plans

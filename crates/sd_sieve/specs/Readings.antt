@@ -1,5 +1,5 @@
 -- What the entries that are looked at are read with. All are the entries of a journal, the newest first.
-use Rattle.std.specs.Prelude.{ℕ, Bool, false, ◌&&◌, ◌||◌, List, [], ◌∷◌, Option, Some, None, if◌then◌else◌}
+use Rattle.std.specs.Prelude.{◌≡◌, ℕ, Bool, false, ◌&&◌, ◌||◌, List, [], ◌∷◌, reverse, Option, Some, None, if◌then◌else◌}
 use Rattle.sd_rules.specs.declared.events.Event.{Event}
 use Rattle.sd_rules.specs.declared.events.Event.TheVariants.{Answer, Pick, Fall}
 use Rattle.sd_rules.specs.declared.replies.Entry.{Entry}
@@ -7,6 +7,9 @@ use Rattle.sd_rules.specs.declared.replies.Reply.{Reply}
 use Rattle.sd_rules.specs.Needed.{is_number, is_looked_at, is_last_again, read_with}
 use Rattle.sd_rules.specs.Past.{is_closed}
 use Rattle.sd_rules.specs.Steps.{is_again}
+use Rattle.sd_sieve.specs.Findings.{is_among}
+use Rattle.sd_sieve.specs.Marks.{marks}
+use Rattle.sd_sieve.specs.declared.reads.Looked.{Looked}
 
 -- the request or attempt that an entry may serve while it is open
 abbrev pub served : Event → Option ℕ
@@ -45,3 +48,9 @@ request_again _ reply = None
 abbrev pub is_again_read : List Entry → Entry → List Entry → Option ℕ → Bool
 is_again_read all e past None = false
 is_again_read all e past (Some request) = is_last_again all request e && reads_answer all request past
+
+-- they are those of a part of the entries that are looked at by all, and what is read with them
+pub record AreLooked (all part : List Entry) (l : Looked) : Type 0 where
+  pub marks : reverse l.marks.items ≡ marks (is_looked_at all) part
+  pub leads : (n : ℕ) → is_among n l.leads.keys ≡ reads_lead all n part
+  pub answers : (n : ℕ) → is_among n l.answers.keys ≡ reads_answer all n part

@@ -1,11 +1,10 @@
-// Which answers are the newest of a key, by the index.
+// Which answer is the newest of a key, by the index.
 ghost use Rattle.std.specs.Prelude.{◌≡◌, [], ◌∷◌, reverse, IfOk, None};
 ghost use Rattle.std.specs.List.{list_any};
 ghost use Rattle.std.specs.Option.{option_copied, option_map};
 ghost use Rattle.sd_rules.specs.Needed as needed;
 ghost use Rattle.sd_journal.specs.Seen as seen;
 ghost use Rattle.sd_sieve.specs.Findings as findings;
-ghost use Rattle.sd_sieve.specs.Marks.{MarkNewest};
 ghost use Rattle.sd_sieve.specs.Whole as held;
 
 use crate::whole::Whole;
@@ -13,7 +12,6 @@ use sd_base::{Copied, Memory};
 use sd_cache::Newest;
 use sd_journal::past::{Standing, answer_in};
 use sd_rules::{Answered, Entry, Key, Record};
-use std::alloc::Global;
 
 fn is_number_kept(number: u64, newest: Option<&Newest>) -> bool
     ensures { result ≡ findings.is_number_kept number (option_copied newest.entry) }
@@ -88,22 +86,14 @@ fn is_newest_of_some(whole: Whole<'_>, answer: Option<Standing<'_>>) -> Result<b
     }
 }
 
-fn is_newest_answer(whole: Whole<'_>, before: &[Entry], entry: &Entry) -> Result<bool, Memory>
+/// Whether an entry holds the newest answer of a key; `before` are the entries before it.
+pub(crate) fn is_newest_answer(
+    whole: Whole<'_>,
+    before: &[Entry],
+    entry: &Entry,
+) -> Result<bool, Memory>
     requires { held.IsIndexed whole }
     ensures { IfOk result (λ is. is ≡ needed.is_newest_answer (held.past_of whole.entry) (reverse before.now) entry.now) }
 {
     is_newest_of_some(whole, answer_in(before, entry))
-}
-
-/// The marks of the entries that hold the newest answer of a key.
-pub fn newest_marks(alloc: Global, whole: Whole<'_>) -> Result<Vec<bool>, Memory>
-    requires { held.IsIndexed whole }
-    ensures { IfOk result (λ made. MarkNewest whole.entry.entries.now made.items) }
-{
-    let entries = whole.entries;
-    let mut made = Vec::new(alloc);
-    for place in 0..entries.len() {
-        made.push(is_newest_answer(whole, &entries[..place], &entries[place])?)?;
-    }
-    Ok(made)
 }

@@ -1,5 +1,5 @@
 // The last invalidation of each name, and the oldest of the newest answers that it covers.
-ghost use Rattle.std.specs.Prelude.{◌≡◌, ◌∷◌, ◌<◌, ℕ, List, length, reverse, take, slice_index_or, IfOk, OnOk, None, if◌then◌else◌};
+ghost use Rattle.std.specs.Prelude.{◌≡◌, ◌∷◌, ◌<◌, ℕ, List, length, reverse, take, true, slice_index_or, IfOk, OnOk, None, if◌then◌else◌};
 ghost use Rattle.std.specs.Option.{option_copied};
 ghost use Rattle.sd_rules.specs.declared.keys.What.{What};
 ghost use Rattle.sd_rules.specs.declared.replies.Entry.{Entry};
@@ -29,7 +29,8 @@ pub struct ByWhat {
     pub group_names: Names,
 }
 
-fn nothing(alloc: Global) -> ByWhat
+/// No numbers.
+pub(crate) fn nothing(alloc: Global) -> ByWhat
     ensures { (what : What) → covers.number_for result what ≡ None }
 {
     ByWhat {
@@ -68,25 +69,15 @@ fn put_for(numbers: &mut ByWhat, what: &What, number: u64) -> Result<(), Memory>
     Ok(())
 }
 
+/// Notes what an entry invalidates.
 #[tactic(auto, using(crate::proofs::CoverLaws::voids_after, crate::proofs::CoverLaws::voids_other))]
-fn note_void(lasts: &mut ByWhat, entry: &Entry) -> Result<(), Memory>
+pub(crate) fn note_void(lasts: &mut ByWhat, entry: &Entry) -> Result<(), Memory>
     ensures { OnOk result ((past : List Entry) → covers.HoldVoids past lasts.old → covers.HoldVoids (entry.now ∷ past) lasts.new) }
 {
     match &entry.event {
         Event::Void(what) => put_for(lasts, what, entry.number),
         _ => Ok(()),
     }
-}
-
-/// The last invalidation of each name.
-pub fn last_voids(alloc: Global, entries: &[Entry]) -> Result<ByWhat, Memory>
-    ensures { IfOk result (λ lasts. covers.HoldVoids (reverse entries.now) lasts) }
-{
-    let mut lasts = nothing(alloc);
-    for place in 0..entries.len() {
-        note_void(&mut lasts, &entries[place])?;
-    }
-    Ok(lasts)
 }
 
 /// The first number, or else this one where an invalidation names the same.
@@ -252,7 +243,19 @@ fn note_covered(
     }
 }
 
+/// Whether nothing has a number.
+fn is_nothing(numbers: &ByWhat) -> bool
+    ensures { result ≡ true → (what : What) → covers.number_for numbers.now what ≡ None }
+{
+    numbers.all.is_none()
+        && numbers.users.is_none()
+        && numbers.groups.is_none()
+        && numbers.user_names.is_empty()
+        && numbers.group_names.is_empty()
+}
+
 /// Of each name that is invalidated, the oldest of the newest answers that the invalidation covers.
+#[tactic(auto, using(crate::proofs::CoverLaws::none_covered))]
 pub fn first_covered(
     alloc: Global,
     all: &[Entry],
@@ -263,6 +266,9 @@ pub fn first_covered(
     ensures { IfOk result (λ firsts. covers.HoldCovered (reverse all.now) (reverse all.now) lasts.now firsts) }
 {
     let mut firsts = nothing(alloc);
+    if is_nothing(lasts) {
+        return Ok(firsts);
+    }
     for place in 0..all.len() {
         note_covered(&mut firsts, lasts, all, newest, place, &all[place])?;
     }

@@ -4,12 +4,12 @@ ghost use Rattle.sd_rules.specs.declared.replies.Entry.{Entry};
 ghost use Rattle.sd_rules.specs.Needed as needed;
 ghost use Rattle.sd_needs.specs.Looks as looks;
 ghost use Rattle.sd_sieve.specs.Findings as findings;
-ghost use Rattle.sd_sieve.specs.Marks.{MarkLooked};
 ghost use Rattle.sd_sieve.specs.Readings as readings;
 ghost use Rattle.sd_sieve.specs.Whole as held;
 
 use crate::findings::Findings;
 use crate::marks::is_newest_at;
+use crate::reads::{Looked, none_looked, note_looked};
 use crate::servers::is_fall_needed;
 use crate::users::{is_login_needed, is_wrong_needed};
 use crate::voids::is_void_needed;
@@ -144,16 +144,18 @@ fn is_looked_at(whole: Whole<'_>, found: &Findings, place: usize, entry: &Entry)
         || is_of_servers(whole, found, place, entry)
 }
 
-/// The marks of the entries that are looked at.
-pub fn looked_marks(alloc: Global, whole: Whole<'_>, found: &Findings) -> Result<Vec<bool>, Memory>
+/// Finds the entries that are looked at, and what is read with them.
+pub fn looked_of(alloc: Global, whole: Whole<'_>, found: &Findings) -> Result<Looked, Memory>
     requires index { held.IsIndexed whole }
     requires found { findings.IsFound whole.entries.now found.now }
-    ensures { IfOk result (λ made. MarkLooked whole.entry.entries.now made.items) }
+    ensures { IfOk result (λ made. readings.AreLooked (held.past_of whole.entry) (held.past_of whole.entry) made) }
 {
     let all = whole.entries;
-    let mut made = Vec::new(alloc);
+    let mut looked = none_looked(alloc);
     for place in 0..all.len() {
-        made.push(is_looked_at(whole, found, place, &all[place]))?;
+        let entry = &all[place];
+        let is_read = is_looked_at(whole, found, place, entry);
+        note_looked(&mut looked, is_read, entry)?;
     }
-    Ok(made)
+    Ok(looked)
 }

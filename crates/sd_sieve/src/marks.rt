@@ -1,7 +1,7 @@
 // What the marks of a journal's entries say of the entry at a place.
 ghost use Rattle.std.specs.Prelude.{◌≡◌, ◌<◌, length, reverse, take, slice_index_or};
 ghost use Rattle.sd_rules.specs.Needed as needed;
-ghost use Rattle.sd_sieve.specs.Marks.{MarkNewest, MarkLooked, MarkNeeded};
+ghost use Rattle.sd_sieve.specs.Marks.{MarkNewest, MarkLooked};
 
 use sd_rules::Entry;
 
@@ -21,16 +21,6 @@ pub fn is_looked_at(entries: &[Entry], marks: &[bool], place: usize, entry: &Ent
     requires within { place < length entries.now }
     requires at { entry.now ≡ slice_index_or entries.now place entry.now }
     ensures { result ≡ needed.is_looked_at (reverse entries.now) (reverse (take place entries.now)) entry.now }
-{
-    marks[place]
-}
-
-/// Whether the entry at a place is needed, by the marks of all.
-pub fn is_needed(entries: &[Entry], marks: &[bool], place: usize, entry: &Entry) -> bool
-    requires marks { MarkNeeded entries.now marks.now }
-    requires within { place < length entries.now }
-    requires at { entry.now ≡ slice_index_or entries.now place entry.now }
-    ensures { result ≡ needed.is_needed (reverse entries.now) (reverse (take place entries.now)) entry.now }
 {
     marks[place]
 }

@@ -1,8 +1,8 @@
 // What is read with the entries that are looked at.
-ghost use Rattle.std.specs.Prelude.{◌≡◌, ◌<◌, ◌||◌, ℕ, length, reverse, take, slice_index_or, IfOk, None};
+ghost use Rattle.std.specs.Prelude.{◌≡◌, ◌<◌, ◌∷◌, [], ℕ, List, length, reverse, take, slice_index_or, OnOk, None};
+ghost use Rattle.sd_rules.specs.declared.replies.Entry.{Entry};
 ghost use Rattle.sd_rules.specs.Needed as needed;
 ghost use Rattle.sd_sieve.specs.Findings.{is_among};
-ghost use Rattle.sd_sieve.specs.Marks.{MarkLooked, MarkNeeded};
 ghost use Rattle.sd_sieve.specs.Readings as readings;
 
 use crate::marks::is_looked_at;
@@ -53,38 +53,40 @@ fn only_if(test: bool, number: Option<u64>) -> Option<u64>
     if test { number } else { None }
 }
 
-/// The requests and attempts with which entries that are looked at are read.
-fn leads(alloc: Global, entries: &[Entry], looked: &[bool]) -> Result<Numbers, Memory>
-    requires { MarkLooked entries.now looked.now }
-    ensures { IfOk result (λ made. (n : ℕ) → is_among n made.keys ≡ readings.reads_lead (reverse entries.now) n (reverse entries.now)) }
-{
-    let mut made = IndexSet::new(alloc);
-    for place in 0..entries.len() {
-        let entry = &entries[place];
-        let is_read = is_looked_at(entries, looked, place, entry);
-        note(
-            &mut made,
-            only_if(is_read, read_with(&entry.event, entry.reply)),
-        )?;
-    }
-    Ok(made)
+/// The entries that are looked at for their own sake, and what is read with them.
+#[derive(Drop)]
+pub struct Looked {
+    /// Of each entry, the oldest first, whether it is looked at.
+    pub marks: Vec<bool>,
+    /// The requests and attempts with which those are read.
+    pub leads: Numbers,
+    /// The requests of the answers among them that are read with these.
+    pub answers: Numbers,
 }
 
-/// The requests of the answers that are looked at and read with them.
-fn answers(alloc: Global, entries: &[Entry], looked: &[bool]) -> Result<Numbers, Memory>
-    requires { MarkLooked entries.now looked.now }
-    ensures { IfOk result (λ made. (n : ℕ) → is_among n made.keys ≡ readings.reads_answer (reverse entries.now) n (reverse entries.now)) }
+pub(crate) fn none_looked(alloc: Global) -> Looked
+    ensures { (all : List Entry) → readings.AreLooked all [] result }
 {
-    let mut made = IndexSet::new(alloc);
-    for place in 0..entries.len() {
-        let entry = &entries[place];
-        let is_read = is_looked_at(entries, looked, place, entry);
-        note(
-            &mut made,
-            only_if(is_read, answer_read(&entry.event, entry.reply)),
-        )?;
+    Looked {
+        marks: Vec::new(alloc),
+        leads: IndexSet::new(alloc),
+        answers: IndexSet::new(alloc),
     }
-    Ok(made)
+}
+
+/// Notes an entry, which is looked at or not.
+pub(crate) fn note_looked(looked: &mut Looked, is: bool, entry: &Entry) -> Result<(), Memory>
+    ensures { OnOk result ((all part : List Entry) → is ≡ needed.is_looked_at all part entry.now → readings.AreLooked all part looked.old → readings.AreLooked all (entry.now ∷ part) looked.new) }
+{
+    looked.marks.push(is)?;
+    note(
+        &mut looked.leads,
+        only_if(is, read_with(&entry.event, entry.reply)),
+    )?;
+    note(
+        &mut looked.answers,
+        only_if(is, answer_read(&entry.event, entry.reply)),
+    )
 }
 
 /// Whether an entry is the last answer to a request, where one is named, that was replied Again, and is read with an answer.
@@ -114,26 +116,13 @@ fn is_read_with(all: &[Entry], leads: &Numbers, answers: &Numbers, entry: &Entry
         )
 }
 
-fn is_needed(all: &[Entry], leads: &Numbers, answers: &Numbers, looked: bool, entry: &Entry) -> bool
-    requires leads { (n : ℕ) → is_among n leads.now.keys ≡ readings.reads_lead (reverse all.now) n (reverse all.now) }
-    requires answers { (n : ℕ) → is_among n answers.now.keys ≡ readings.reads_answer (reverse all.now) n (reverse all.now) }
-    ensures { result ≡ (looked || needed.is_read_with (reverse all.now) entry.now (reverse all.now)) }
+/// Whether the entry at a place is needed, by those that are looked at.
+pub fn is_needed_by(all: &[Entry], looked: &Looked, place: usize, entry: &Entry) -> bool
+    requires looked { readings.AreLooked (reverse all.now) (reverse all.now) looked.now }
+    requires within { place < length all.now }
+    requires at { entry.now ≡ slice_index_or all.now place entry.now }
+    ensures { result ≡ needed.is_needed (reverse all.now) (reverse (take place all.now)) entry.now }
 {
-    looked || is_read_with(all, leads, answers, entry)
-}
-
-/// The marks of the entries that are needed, by those that are looked at.
-pub fn needed_marks(alloc: Global, all: &[Entry], looked: &[bool]) -> Result<Vec<bool>, Memory>
-    requires { MarkLooked all.now looked.now }
-    ensures { IfOk result (λ made. MarkNeeded all.now made.items) }
-{
-    let leads = leads(alloc, all, looked)?;
-    let answers = answers(alloc, all, looked)?;
-    let mut made = Vec::new(alloc);
-    for place in 0..all.len() {
-        let entry = &all[place];
-        let is_looked = is_looked_at(all, looked, place, entry);
-        made.push(is_needed(all, &leads, &answers, is_looked, entry))?;
-    }
-    Ok(made)
+    is_looked_at(all, looked.marks.as_slice(), place, entry)
+        || is_read_with(all, &looked.leads, &looked.answers, entry)
 }

@@ -1,5 +1,5 @@
 // The last fall of each server, and the last word that the directory can be reached.
-ghost use Rattle.std.specs.Prelude.{◌≡◌, ◌∷◌, ℕ, List, reverse, IfOk, OnOk, None};
+ghost use Rattle.std.specs.Prelude.{◌≡◌, [], ◌∷◌, ℕ, List, OnOk, None};
 ghost use Rattle.sd_rules.specs.declared.replies.Entry.{Entry};
 ghost use Rattle.sd_rules.specs.Needed as needed;
 ghost use Rattle.sd_rules.specs.Servers as servers;
@@ -41,8 +41,9 @@ fn server_fallen(event: &Event, reply: Reply) -> Option<u32>
     }
 }
 
+/// Notes the fall that an entry is, or that the directory can be reached again.
 #[tactic(auto, using(crate::proofs::ServerLaws::falls_after, crate::proofs::ServerLaws::falls_cleared))]
-fn note_fall(falls: &mut Falls, entry: &Entry) -> Result<(), Memory>
+pub(crate) fn note_fall(falls: &mut Falls, entry: &Entry) -> Result<(), Memory>
     ensures { OnOk result ((past : List Entry) → fallen.HoldFalls past falls.old.entries → fallen.HoldFalls (entry.now ∷ past) falls.new.entries) }
 {
     if is_online(&entry.event) {
@@ -56,15 +57,11 @@ fn note_fall(falls: &mut Falls, entry: &Entry) -> Result<(), Memory>
     )
 }
 
-/// Of each server the last fall since the last word that the directory can be reached.
-pub fn last_falls(alloc: Global, entries: &[Entry]) -> Result<Falls, Memory>
-    ensures { IfOk result (λ falls. fallen.HoldFalls (reverse entries.now) falls.entries) }
+/// The falls that no entries tell of.
+pub(crate) fn no_falls(alloc: Global) -> Falls
+    ensures { fallen.HoldFalls [] result.entries }
 {
-    let mut falls = IndexMap::new(alloc);
-    for place in 0..entries.len() {
-        note_fall(&mut falls, &entries[place])?;
-    }
-    Ok(falls)
+    IndexMap::new(alloc)
 }
 
 /// Whether an entry is the last fall of its server.

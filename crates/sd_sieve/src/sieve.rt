@@ -1,17 +1,16 @@
 // The forget: what it will do, and its doing, which moves each entry once and takes no memory.
-ghost use Rattle.std.specs.Prelude.{◌≡◌, ◌++◌, ◌∷◌, ◌+◌, ◌<◌, ◌≤◌, ℕ, List, [], true, length, reverse, vec_capacity, slice_index_or, IfOk, OnOk, if◌then◌else◌};
+ghost use Rattle.std.specs.Prelude.{◌≡◌, ◌++◌, ◌∷◌, ◌+◌, ◌<◌, ◌≤◌, ℕ, List, [], true, length, reverse, take, vec_capacity, slice_index_or, IfOk, OnOk, if◌then◌else◌};
 ghost use Rattle.sd_rules.specs.declared.replies.Entry.{Entry};
 ghost use Rattle.sd_rules.specs.Needed as needed;
 ghost use Rattle.sd_index.specs.Entries.{falls, numbers_fall};
 ghost use Rattle.sd_index.specs.Table.{Indexes, Remakes};
 ghost use Rattle.sd_sieve.specs.Marks.{MarkNeeded};
 ghost use Rattle.sd_sieve.specs.Plans.{IsPlanOf};
-ghost use Rattle.sd_sieve.specs.Whole as held;
+ghost use Rattle.sd_sieve.specs.Readings.{AreLooked};
 
 use crate::findings::find;
-use crate::looked::looked_marks;
-use crate::marks::is_needed;
-use crate::reads::needed_marks;
+use crate::looked::looked_of;
+use crate::reads::{Looked, is_needed_by};
 use crate::whole::Whole;
 use sd_base::Memory;
 use sd_cache::Primed;
@@ -29,16 +28,6 @@ pub struct Plan {
     pub remade: Remade,
 }
 
-/// The marks of the entries that a forget keeps.
-fn kept_marks(alloc: Global, whole: Whole<'_>) -> Result<Vec<bool>, Memory>
-    requires { held.IsIndexed whole }
-    ensures { IfOk result (λ made. MarkNeeded whole.entry.entries.now made.items) }
-{
-    let found = find(alloc, whole)?;
-    let looked = looked_marks(alloc, whole, &found)?;
-    needed_marks(alloc, whole.entries, looked.as_slice())
-}
-
 fn note_if(made: &mut Remade, is_kept: bool, entry: &Entry) -> Result<(), Memory>
     ensures { OnOk result ((past : List Entry) → numbers_fall entry.now.number past ≡ true → Remakes past made.old → Remakes (if is_kept then entry.now ∷ past else past) made.new) }
 {
@@ -48,24 +37,25 @@ fn note_if(made: &mut Remade, is_kept: bool, entry: &Entry) -> Result<(), Memory
     Ok(())
 }
 
-/// What is made anew of the index, for the entries that are kept.
-fn remade(
+/// The plan by the entries that are looked at.
+fn planned(
     alloc: Global,
     hasher: Primed,
     entries: &[Entry],
-    marks: &[bool],
-) -> Result<Remade, Memory>
+    looked: &Looked,
+) -> Result<Plan, Memory>
     requires numbers { falls (reverse entries.now) ≡ true }
-    requires marks { MarkNeeded entries.now marks.now }
-    ensures { IfOk result (λ made. Remakes (needed.needed (reverse entries.now)) made) }
+    requires looked { AreLooked (reverse entries.now) (reverse entries.now) looked.now }
+    ensures { IfOk result (IsPlanOf entries.now) }
 {
-    let mut made = Remade::new(alloc, hasher);
+    let (mut marks, mut remade) = (Vec::new(alloc), Remade::new(alloc, hasher));
     for place in 0..entries.len() {
         let entry = &entries[place];
-        let is_kept = is_needed(entries, marks, place, entry);
-        note_if(&mut made, is_kept, entry)?;
+        let is_kept = is_needed_by(entries, looked, place, entry);
+        marks.push(is_kept)?;
+        note_if(&mut remade, is_kept, entry)?;
     }
-    Ok(made)
+    Ok(Plan { marks, remade })
 }
 
 /// Plans a forget of a journal whose index this is. It goes over the entries a few times, and never over all of them for each.
@@ -78,9 +68,10 @@ pub fn plan_of(
     requires { Indexes (reverse entries.now) index.now }
     ensures { IfOk result (IsPlanOf entries.now) }
 {
-    let marks = kept_marks(alloc, Whole { entries, index })?;
-    let remade = remade(alloc, hasher, entries, marks.as_slice())?;
-    Ok(Plan { marks, remade })
+    let whole = Whole { entries, index };
+    let found = find(alloc, whole)?;
+    let looked = looked_of(alloc, whole, &found)?;
+    planned(alloc, hasher, entries, &looked)
 }
 
 /// What stands in the place of an entry that was moved away.
@@ -98,25 +89,36 @@ fn take_at(entries: &mut Vec<Entry>, place: usize) -> Entry
     requires { place < length entries.old.items }
     ensures taken { result ≡ slice_index_or entries.old.items place result }
     ensures long { length entries.new.items ≡ length entries.old.items }
-    ensures others { (j : ℕ) (d : Entry) → place < j → slice_index_or entries.new.items j d ≡ slice_index_or entries.old.items j d }
+    ensures before { take place entries.new.items ≡ take place entries.old.items }
+    ensures behind { (j : ℕ) (d : Entry) → place < j → slice_index_or entries.new.items j d ≡ slice_index_or entries.old.items j d }
 {
     mem::replace(&mut entries[place], nothing())
 }
 
-/// Puts an entry behind those that are kept, or behind the others. There is room for it.
-fn put(entry: Entry, is_kept: bool, kept: &mut Vec<Entry>, dropped: &mut Vec<Entry>)
-    requires kept { length kept.old.items + 1 ≤ vec_capacity kept.old }
-    requires dropped { length dropped.old.items + 1 ≤ vec_capacity dropped.old }
+/// Puts an entry behind those that are kept, which have room for it, or behind those that are handed back, which stand first in their
+/// list. Returns how many these are then.
+fn put(
+    entry: Entry,
+    is_kept: bool,
+    kept: &mut Vec<Entry>,
+    entries: &mut Vec<Entry>,
+    count: usize,
+) -> usize
+    requires room { length kept.old.items + 1 ≤ vec_capacity kept.old }
+    requires within { count < length entries.old.items }
     ensures kept { kept.new.items ≡ (if is_kept then kept.old.items ++ entry ∷ [] else kept.old.items) }
-    ensures dropped { dropped.new.items ≡ (if is_kept then dropped.old.items else dropped.old.items ++ entry ∷ []) }
+    ensures dropped { take result entries.new.items ≡ (if is_kept then take count entries.old.items else take count entries.old.items ++ entry ∷ []) }
+    ensures count { result ≡ (if is_kept then count else count + 1) }
+    ensures long { length entries.new.items ≡ length entries.old.items }
+    ensures behind { (j : ℕ) (d : Entry) → count < j → slice_index_or entries.new.items j d ≡ slice_index_or entries.old.items j d }
     ensures room { vec_capacity kept.new ≡ vec_capacity kept.old }
-    ensures place { vec_capacity dropped.new ≡ vec_capacity dropped.old }
 {
     if is_kept {
         kept.push_reserved(entry);
-    } else {
-        dropped.push_reserved(entry);
+        return count;
     }
+    entries[count] = entry;
+    count + 1
 }
 
 /// The entries of a journal after a forget, the oldest first in both lists.
@@ -126,25 +128,24 @@ pub struct Sifted {
     pub dropped: Vec<Entry>,
 }
 
-/// Moves the entries of a journal to those that are kept and to those that are handed back, by their marks. There is room for them.
-pub fn sift(
-    mut entries: Vec<Entry>,
-    marks: &[bool],
-    mut kept: Vec<Entry>,
-    mut dropped: Vec<Entry>,
-) -> Sifted
+/// Moves the entries of a journal that are kept, by their marks, to a list that has room for them, and closes up those that are handed
+/// back.
+pub fn sift(mut entries: Vec<Entry>, marks: &[bool], mut kept: Vec<Entry>) -> Sifted
     requires marks { MarkNeeded entries.items marks.now }
     requires none { kept.items ≡ [] }
-    requires nor { dropped.items ≡ [] }
     requires room { length entries.items ≤ vec_capacity kept }
-    requires place { length entries.items ≤ vec_capacity dropped }
     ensures kept { reverse result.kept.items ≡ needed.needed (reverse entries.items) }
     ensures dropped { reverse result.dropped.items ≡ needed.forgotten (reverse entries.items) }
     ensures room { vec_capacity result.kept ≡ vec_capacity kept }
 {
+    let mut count = 0;
     for place in 0..entries.len() {
         let entry = take_at(&mut entries, place);
-        put(entry, marks[place], &mut kept, &mut dropped);
+        count = put(entry, marks[place], &mut kept, &mut entries, count);
     }
-    Sifted { kept, dropped }
+    entries.truncate(count);
+    Sifted {
+        kept,
+        dropped: entries,
+    }
 }

@@ -1,6 +1,7 @@
 // What the tickets that wait will look at.
-ghost use Rattle.std.specs.Prelude.{◌≡◌, ◌++◌, reverse, IfOk, OnOk, None};
+ghost use Rattle.std.specs.Prelude.{◌≡◌, ◌++◌, reverse, OnOk, None};
 ghost use Rattle.sd_rules.specs.Needed as needed;
+ghost use Rattle.sd_rules.specs.Requests as requests;
 ghost use Rattle.sd_sieve.specs.Findings as findings;
 ghost use Rattle.sd_sieve.specs.Whole as held;
 
@@ -9,7 +10,6 @@ use sd_base::Memory;
 use sd_journal::requests::outcome_of;
 use sd_needs::tickets::{answer_of_outcome, closing_of};
 use sd_rules::Entry;
-use std::alloc::Global;
 
 /// Puts a number at the end, where there is one.
 pub fn put(numbers: &mut Vec<u64>, number: Option<u64>) -> Result<(), Memory>
@@ -39,17 +39,12 @@ fn answer_for(entries: &[Entry], request: Option<u64>) -> Option<u64>
     }
 }
 
-/// The numbers of the entries that the tickets that wait will look at.
-pub fn awaited(alloc: Global, whole: Whole<'_>) -> Result<Vec<u64>, Memory>
+/// Puts at the end what a ticket will look at, where it waits.
+pub fn put_awaited(numbers: &mut Vec<u64>, whole: Whole<'_>, ticket: u64) -> Result<(), Memory>
     requires { held.IsIndexed whole }
-    ensures { IfOk result (λ made. made.items ≡ findings.awaited (held.past_of whole.entry) (held.past_of whole.entry)) }
+    ensures { OnOk result (numbers.new.items ≡ (numbers.old.items ++ findings.listed (findings.closing_for (held.past_of whole.entry) (requests.waits_for (held.past_of whole.entry) ticket))) ++ findings.listed (findings.answer_for (held.past_of whole.entry) (requests.waits_for (held.past_of whole.entry) ticket))) }
 {
-    let entries = whole.entries;
-    let mut made = Vec::new(alloc);
-    for place in 0..entries.len() {
-        let request = waits_for(whole, entries[place].number);
-        put(&mut made, closing_for(entries, request))?;
-        put(&mut made, answer_for(entries, request))?;
-    }
-    Ok(made)
+    let request = waits_for(whole, ticket);
+    put(numbers, closing_for(whole.entries, request))?;
+    put(numbers, answer_for(whole.entries, request))
 }

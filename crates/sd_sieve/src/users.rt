@@ -1,5 +1,5 @@
 // The last logins of users, the entries of their hashes, and those that accepted them, by names.
-ghost use Rattle.std.specs.Prelude.{◌≡◌, ◌∷◌, ℕ, List, true, reverse, IfOk, OnOk, None};
+ghost use Rattle.std.specs.Prelude.{◌≡◌, [], ◌∷◌, ℕ, List, true, reverse, OnOk, None};
 ghost use Rattle.std.specs.Option.{option_copied};
 ghost use Rattle.sd_rules.specs.declared.replies.Entry.{Entry};
 ghost use Rattle.sd_rules.specs.Logins as logins;
@@ -140,51 +140,24 @@ fn note_accepting(names: &mut Names, before: &[Entry], entry: &Entry) -> Result<
     put_under(names, user_accepted(before, entry), entry.number)
 }
 
-/// The last online login of each user.
-fn last_logins(alloc: Global, entries: &[Entry]) -> Result<Names, Memory>
-    ensures { IfOk result (λ names. users.HoldLogins (reverse entries.now) names.entries) }
+/// Notes what an entry says of users; `before` are the entries before it.
+pub(crate) fn note_users(found: &mut Users, before: &[Entry], entry: &Entry) -> Result<(), Memory>
+    ensures { OnOk result (users.HoldUsers (reverse before.now) found.old → users.HoldUsers (entry.now ∷ reverse before.now) found.new) }
 {
-    let mut names = IndexMap::new(alloc);
-    for place in 0..entries.len() {
-        note_login(&mut names, &entries[..place], &entries[place])?;
-    }
-    Ok(names)
+    note_login(&mut found.logins, before, entry)?;
+    note_hash(&mut found.hashes, before, entry)?;
+    note_accepting(&mut found.accepts, before, entry)
 }
 
-/// The hash entry of each user.
-fn hash_entries(alloc: Global, entries: &[Entry]) -> Result<Names, Memory>
-    ensures { IfOk result (λ names. users.HoldHashes (reverse entries.now) names.entries) }
+/// What no entries say of users.
+pub(crate) fn no_users(alloc: Global) -> Users
+    ensures { users.HoldUsers [] result }
 {
-    let mut names = IndexMap::new(alloc);
-    for place in 0..entries.len() {
-        note_hash(&mut names, &entries[..place], &entries[place])?;
+    Users {
+        logins: IndexMap::new(alloc),
+        hashes: IndexMap::new(alloc),
+        accepts: IndexMap::new(alloc),
     }
-    Ok(names)
-}
-
-/// The last entry that accepted each user.
-fn last_accepting(alloc: Global, entries: &[Entry]) -> Result<Names, Memory>
-    ensures { IfOk result (λ names. users.HoldAccepts (reverse entries.now) names.entries) }
-{
-    let mut names = IndexMap::new(alloc);
-    for place in 0..entries.len() {
-        note_accepting(&mut names, &entries[..place], &entries[place])?;
-    }
-    Ok(names)
-}
-
-/// Finds the last logins of all users.
-pub fn users_of(alloc: Global, entries: &[Entry]) -> Result<Users, Memory>
-    ensures { IfOk result (λ found. users.HoldUsers (reverse entries.now) found) }
-{
-    let logins = last_logins(alloc, entries)?;
-    let hashes = hash_entries(alloc, entries)?;
-    let accepts = last_accepting(alloc, entries)?;
-    Ok(Users {
-        logins,
-        hashes,
-        accepts,
-    })
 }
 
 /// Whether the entry of a number is the hash entry or the last online login of a user, where there is a user.

@@ -12,8 +12,9 @@ bounds-marks-place c =
 pub loop-place-preserved : goal.loop-place-preserved
 loop-place-preserved c =
     let lt : c.loop-place.place < length c.args.entries.items = search rules in (
-      sifted_more c.args.entries.items c.loop-place.entries.items c.take_at-entry.new.entries.items c.loop-place.kept.items c.loop-place.dropped.items
-          c.put.new.kept.items c.put.new.dropped.items c.args.marks.now c.loop-place.place c.take_at-entry.result _ _ c.requires.marks lt
-          c.loop-place.invariant.0 c.take_at-entry.ensures.taken refl c.take_at-entry.ensures.long c.take_at-entry.ensures.others c.put.ensures.kept c.put.ensures.dropped,
-      (c.put.ensures.room ∙ c.loop-place.invariant.1.0, c.put.ensures.place ∙ c.loop-place.invariant.1.1),
+      sifted_more c.args.entries.items c.loop-place.entries.items c.take_at-entry.new.entries.items c.put-count.new.entries.items c.loop-place.kept.items
+          c.put-count.new.kept.items c.args.marks.now c.loop-place.count c.put-count.result c.loop-place.place c.take_at-entry.result _ _ c.requires.marks lt
+          c.loop-place.invariant.0 c.take_at-entry.ensures.taken refl c.take_at-entry.ensures.long c.take_at-entry.ensures.before c.take_at-entry.ensures.behind
+          c.put-count.ensures.kept c.put-count.ensures.dropped c.put-count.ensures.count c.put-count.ensures.long c.put-count.ensures.behind,
+      c.put-count.ensures.room ∙ c.loop-place.invariant.1,
     )

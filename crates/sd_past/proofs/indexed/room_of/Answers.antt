@@ -1,6 +1,6 @@
 use Rattle.std.proofs.Common.{rules, ◌≤◌, length, reverse}
 use Rattle.sd_past.proofs.RoomLaws.{places_within}
-use Rattle.sd_past.proofs.indexed.rooms.Goals as goal
+use Rattle.sd_past.proofs.indexed.room_of.Goals as goal
 
 pub overflow_add-entries : goal.overflow_add-entries
 overflow_add-entries c =

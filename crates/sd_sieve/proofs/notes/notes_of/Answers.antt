@@ -1,0 +1,18 @@
+use Rattle.std.proofs.Common.{rules, ◌≡◌, ℕ, ◌<◌, List, length, reverse, take, get_or, sym, subst}
+use Rattle.sd_rules.specs.declared.replies.Entry.{Entry}
+use Rattle.sd_sieve.specs.Notes.{AreNotesOf}
+use Rattle.sd_sieve.proofs.CoverLaws.{more_at}
+use Rattle.sd_sieve.proofs.notes.notes_of.Goals as goal
+
+pub loop-place-init : goal.loop-place-init
+loop-place-init c = c.no_notes-notes.ensures (reverse c.args.whole.entries.now)
+
+pub loop-place-preserved : goal.loop-place-preserved
+loop-place-preserved c =
+    let all : List Entry = c.args.whole.entries.now in
+    let e : Entry = c.index-entries-place.result in
+    let place : ℕ = c.loop-place.place in
+    let lt : place < length all = search rules in
+    let at : e ≡ get_or all place e = search rules in
+    subst (λ (l : List Entry). AreNotesOf (reverse all) l c.note.new.notes) (sym (more_at all place e lt at))
+    (c.in_ok-note.ensures (reverse (take place all)) c.loop-place.invariant)
