@@ -19,6 +19,3 @@ pub use replies::{By, Entry, Given, Journal, NotBy, Outcome, Refused, Reply, Ste
 pub use scripts::{Led, LedList, LoginStage, LoginStep, LookupCourse, LookupStage, LookupStep};
 pub use settings::{AccessMode, Settings, SimpleLists};
 pub use tasks::{Bound, Fetched, Need, Said, Task, Who};
-
-#[cfg(test)]
-mod tests;

@@ -10,6 +10,3 @@ mod users;
 mod visit;
 
 pub use storming::storm;
-
-#[cfg(test)]
-mod tests;

@@ -15,6 +15,3 @@ pub use connection::{ClientSink, ClientSource};
 pub use doors::UnixDoors;
 pub use lobby::{Guest, Lobby, MOST_GUESTS, SILENT_SECONDS};
 pub use place::FramePlace;
-
-#[cfg(test)]
-mod tests;
