@@ -6,6 +6,3 @@ mod task;
 
 pub use laws::scripts_go_on;
 pub use task::AdminTask;
-
-#[cfg(test)]
-mod tests;

@@ -25,11 +25,11 @@ impl DeskSeat {
         self.counts
     }
 
-    /// Whether the front has grown to twice what the last forget left and a thousand entries more, as far as the seat has
-    /// seen: so a forget costs each entry a constant.
+    /// Whether the front has grown to one and a half times what the last forget left and a thousand entries more, as far as
+    /// the seat has seen: so a forget costs each entry a constant.
     pub fn has_grown(&self) -> bool
-        ensures { IsTrue result ↔ 2 * (counts_of self.now).left + 1000 ≤ (counts_of self.now).entries }
+        ensures { IsTrue result ↔ 3 * (counts_of self.now).left + 2000 ≤ 2 * (counts_of self.now).entries }
     {
-        2 * self.counts.left as u128 + 1000 <= self.counts.entries as u128
+        3 * self.counts.left as u128 + 2000 <= 2 * self.counts.entries as u128
     }
 }

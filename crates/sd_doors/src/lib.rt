@@ -6,6 +6,3 @@ mod memory;
 
 pub use doors::{DoorFailed, Doors};
 pub use memory::{Connection, MemoryDoors};
-
-#[cfg(test)]
-mod tests;

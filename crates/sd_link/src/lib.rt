@@ -6,6 +6,3 @@ pub mod memory;
 
 pub use link::{Link, LinkFailed};
 pub use memory::MemoryLink;
-
-#[cfg(test)]
-mod tests;

@@ -10,6 +10,3 @@ pub use account::{Account, account_of};
 pub use asked::{USERS, users_asked};
 pub use lines::lines_of;
 pub use words::requests_of;
-
-#[cfg(test)]
-mod tests;

@@ -15,8 +15,8 @@ use sd_rules::{Event, Given, Refused, StepFault};
 use std::hint::spin_loop;
 use std::sync::Wait;
 
-/// Forgets where the journal has grown to twice what the last forget left and a thousand entries more. What is forgotten is let go
-/// outside the turn.
+/// Forgets where the journal has grown to one and a half times what the last forget left and a thousand entries more. What is
+/// forgotten is let go outside the turn.
 pub fn forget_where_grown<R: Wait>(rt: &R, desk: &Desk, seat: &mut DeskSeat)
     requires own { IsOwn desk.now seat.old }
     requires free { HoldsNoTurn seat.old }

@@ -7,6 +7,3 @@ mod link;
 
 pub use dialer::TcpDialer;
 pub use link::TcpLink;
-
-#[cfg(test)]
-mod tests;

@@ -4,6 +4,3 @@
 mod doors;
 
 pub use doors::TcpDoors;
-
-#[cfg(test)]
-mod tests;
