@@ -7,8 +7,9 @@ ghost use Rattle.sd_core.specs.Numbered as replies;
 
 use sd_base::{Copied, Memory, Shared, Text};
 use sd_index::entries::event_at;
+use sd_keeping::readings::hash_of_event;
 use sd_rules::{
-    Answered, By, Entry, Event, Given, Hash, LoginResult, Outcome, Record, Reply, Row, Rule,
+    Answered, By, Entry, Event, Given, Hash, Outcome, Record, Reply, Row, Rule,
 };
 
 fn record_of(event: &Event) -> Option<&Shared<Record>>
@@ -57,16 +58,6 @@ fn record_named(entries: &[Entry], reply: Reply) -> Option<&Shared<Record>>
     match answer_named(reply) {
         Some(number) => record_at(entries, number),
         None => None,
-    }
-}
-
-fn hash_of_event(event: &Event) -> Option<Hash>
-    ensures { result ≡ steps.hash_of_event event.now }
-{
-    match event {
-        Event::LoginOnline(_, LoginResult::Right(hash)) => *hash,
-        Event::Kept(Row::Hash(_, _, _, hash)) => Some(*hash),
-        _ => None,
     }
 }
 

@@ -95,7 +95,9 @@ fn word_of(event: &Event, reply: Reply) -> LoginWord
     ensures { result ≡ noted.word_of event.now reply }
 {
     match event {
-        Event::LoginOnline(_, outcome) if is_closed(reply) => word_of_login(hash_carried(outcome)),
+        Event::LoginOnline(_, outcome) if is_closed(reply) => {
+            word_of_login(hash_carried(outcome.value()))
+        }
         Event::LoginGuess(..) => word_of_guess(reply),
         Event::LoginTry(..) if is_try_accepted(reply) => LoginWord::Acceptance,
         Event::Kept(row) => word_of_row(row),

@@ -11,6 +11,7 @@ use sd_creds::Salts;
 use sd_nss::NssTask;
 use sd_pam::{AccessTask, LoginTask};
 use sd_rules::{AccessMode, Bound, Event, Fetched, Given, Key, Need};
+use std::alloc::Global;
 use std::marker::Model;
 
 /// A client's request, as far as it has come. It follows the script of its kind.
@@ -45,12 +46,18 @@ impl Client {
 
     /// A login of a user; `stores` says whether hashes of passwords are stored.
     #[tactic(auto, using(crate::proofs::TaskLaws::seen_by, crate::proofs::TaskLaws::tied_by))]
-    pub fn log_in(salts: Salts, user: Text, password: Text, stores: bool) -> Client
+    pub fn log_in(
+        alloc: Global,
+        salts: Salts,
+        user: Text,
+        password: Text,
+        stores: bool,
+    ) -> Client
         ensures { result ≡ record { seed = salts; course = courses.login (record { user = user; password = password; stores = stores }) } }
     {
         Client {
             salts,
-            task: ClientTask::LogIn(LoginTask::new(user, password, salts, stores)),
+            task: ClientTask::LogIn(LoginTask::new(alloc, user, password, salts, stores)),
         }
     }
 

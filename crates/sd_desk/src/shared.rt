@@ -66,7 +66,10 @@ impl Chronicle for SharedCore {
 
 /// Whether an event is a login that a server took, with a hash to be kept.
 fn brings_hash(event: &Event) -> bool {
-    matches!(event, Event::LoginOnline(_, LoginResult::Right(Some(_))))
+    match event {
+        Event::LoginOnline(_, said) => matches!(said.value(), LoginResult::Right(Some(_))),
+        _ => false,
+    }
 }
 
 impl SharedCore {

@@ -142,7 +142,8 @@ impl Engine {
     {
         self.stops = is_stop(&request);
         self.has_failed = false;
-        put(&mut self.client, Some(client_of(*salts, settings, request)));
+        let client = client_of(self.alloc, *salts, settings, request);
+        put(&mut self.client, Some(client));
     }
 
     /// A turn without a request in hand: a frame is heard, or bytes are taken.

@@ -6,6 +6,7 @@ use sd_course::Client;
 use sd_creds::Salts;
 use sd_rules::{Event, Key, Settings};
 use sd_wire::Request;
+use std::alloc::Global;
 
 /// Whether it is the operator's word to end the daemon.
 pub fn is_stop(request: &Request) -> bool
@@ -15,7 +16,7 @@ pub fn is_stop(request: &Request) -> bool
 }
 
 /// The client's request that a frame holds, from its first need on.
-pub fn client_of(salts: Salts, settings: &Settings, request: Request) -> Client
+pub fn client_of(alloc: Global, salts: Salts, settings: &Settings, request: Request) -> Client
     ensures { result ≡ engines.client_of salts settings.now request }
 {
     match request {
@@ -25,7 +26,7 @@ pub fn client_of(salts: Salts, settings: &Settings, request: Request) -> Client
         Request::Gid(gid) => Client::look_up(salts, Key::Gid(gid)),
         Request::GroupsOf(name) => Client::look_up(salts, Key::GroupsOf(name)),
         Request::Login(user, password) => {
-            Client::log_in(salts, user, password, settings.cache_credentials)
+            Client::log_in(alloc, salts, user, password, settings.cache_credentials)
         }
         Request::Access(user, service) => Client::check(salts, user, service, settings.access),
         Request::Void(what) => Client::order(salts, Event::Void(what)),

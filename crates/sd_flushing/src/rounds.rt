@@ -1,5 +1,5 @@
 // Rows of a round: the moment of each is the round's number.
-use sd_base::{Memory, Text};
+use sd_base::{Memory, Shared, Text};
 use sd_rules::{Hash, Row, Rows};
 use std::alloc::Global;
 
@@ -31,6 +31,7 @@ pub fn hash_of(alloc: Global, round: u32) -> Result<Rows, Memory> {
     let user = Text::from_bytes(alloc, b"alice")?;
     let mut rows = Rows::new(alloc);
     rows.push(head(1, round))?;
+    let hash = Shared::new(alloc, hash)?;
     rows.push(Row::Hash(1, u64::from(round), user, hash))?;
     Ok(rows)
 }

@@ -80,7 +80,7 @@ fn login_by(before: &[Entry], user: &Text, event: &Event, reply: Reply) -> Optio
     match event {
         Event::LoginOnline(attempt, outcome) => {
             if is_closed(reply) && is_attempt_of(before, *attempt, user) {
-                hash_carried(outcome)
+                hash_carried(outcome.value())
             } else {
                 None
             }
@@ -171,7 +171,7 @@ pub fn accepts(before: &[Entry], user: &Text, event: &Event, reply: Reply) -> bo
 {
     match event {
         Event::LoginOnline(attempt, outcome) => {
-            is_right(outcome) && is_closed(reply) && is_attempt_of(before, *attempt, user)
+            is_right(outcome.value()) && is_closed(reply) && is_attempt_of(before, *attempt, user)
         }
         Event::LoginGuess(name, _, _) => is_accepted(reply) && name == user,
         Event::LoginTry(attempt, _, _) => {

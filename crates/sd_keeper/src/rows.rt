@@ -1,5 +1,5 @@
 //! Rows as bytes: a kind, and what it holds.
-ghost use Rattle.std.specs.Prelude.{◌≡◌, ◌∷◌, ◌++◌, true, false, IfOk, OnOk};
+ghost use Rattle.std.specs.Prelude.{◌≡◌, ◌∷◌, ◌++◌, true, false, IfErr, IfOk, OnOk};
 ghost use Rattle.sd_rules.specs.declared.events.Row.{Row};
 ghost use Rattle.sd_rules.specs.declared.events.Row.TheVariants as spelled_rows;
 ghost use Rattle.sd_keeper.specs.Spelling as spelling;
@@ -8,9 +8,10 @@ ghost use Rattle.sd_keeper.specs.Fitting.{IsRow};
 ghost use Rattle.sd_keeper.specs.Reading as reading;
 ghost use Rattle.sd_keeper.specs.Reading.{Gives};
 ghost use Rattle.sd_keeper.specs.Blobs as blobs;
+ghost use Rattle.sd_keeper.specs.declared.field.FieldFault.TheVariants as faults;
 
 use crate::field::{Field, FieldFault, push_bytes};
-use sd_base::{Bytes, Memory, Text};
+use sd_base::{Bytes, Memory, Shared, Text};
 use sd_creds::{hash_text, read_hash};
 use sd_rules::{Answered, Hash, Key, Row};
 use std::alloc::Global;
@@ -95,7 +96,7 @@ fn spell_row(alloc: Global, out: &mut Vec<u8>, row: &Row) -> Result<(), Memory>
             spell_answer(out, key, answered, *voided)
         }
         Row::Hash(number, moment, user, hash) => {
-            spell_hash_row(alloc, out, *number, *moment, user, hash)
+            spell_hash_row(alloc, out, *number, *moment, user, hash.value())
         }
         Row::Wrong(number, moment, user, count) => {
             spell_begin(out, 3, *number, *moment)?;
@@ -245,6 +246,14 @@ fn hashed_row(alloc: Global, bytes: &[u8]) -> Result<Hashed, FieldFault>
     }
 }
 
+fn hash_row_of(alloc: Global, hashed: Hashed, hash: Hash) -> Result<Row, FieldFault>
+    ensures ok { IfOk result (λ row. row ≡ spelled_rows.Hash hashed.number hashed.moment hashed.user hash) }
+    ensures err { IfErr result (λ fault. fault ≡ faults.Memory) }
+{
+    let hash = Shared::new(alloc, hash)?;
+    Ok(Row::Hash(hashed.number, hashed.moment, hashed.user, hash))
+}
+
 /// The row of a hash, with nothing behind it.
 fn hash_row(alloc: Global, bytes: &[u8]) -> Result<Row, FieldFault>
     ensures found { IfOk result (λ row. (2 ∷ bytes.now ≡ row_bytes row) × (blobs.is_online row ≡ false)) }
@@ -252,7 +261,7 @@ fn hash_row(alloc: Global, bytes: &[u8]) -> Result<Row, FieldFault>
 {
     let hashed = hashed_row(alloc, bytes)?;
     match read_hash(hashed.text.bytes()) {
-        Ok(hash) => Ok(Row::Hash(hashed.number, hashed.moment, hashed.user, hash)),
+        Ok(hash) => hash_row_of(alloc, hashed, hash),
         Err(_) => Err(FieldFault::Bad),
     }
 }

@@ -74,8 +74,11 @@ pub fn hash_of_event(event: &Event) -> Option<Hash>
     ensures { result ≡ steps.hash_of_event event.now }
 {
     match event {
-        Event::LoginOnline(_, LoginResult::Right(hash)) => *hash,
-        Event::Kept(Row::Hash(_, _, _, hash)) => Some(*hash),
+        Event::LoginOnline(_, said) => match said.value() {
+            LoginResult::Right(hash) => *hash,
+            _ => None,
+        },
+        Event::Kept(Row::Hash(_, _, _, hash)) => Some(*hash.value()),
         _ => None,
     }
 }

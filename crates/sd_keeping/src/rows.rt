@@ -9,7 +9,7 @@ ghost use Rattle.sd_keeping.specs.Keeps as keeps;
 ghost use Rattle.sd_keeping.specs.Opening as opening;
 
 use crate::readings::{hash_of_event, last_wrong, least_moment, next_number, wrong_count};
-use sd_base::{Copied, Memory, Text};
+use sd_base::{Copied, Memory, Shared, Text};
 use sd_journal::logins::{Login, hash_entry, last_online_login, wrongs};
 use sd_journal::past::{Standing, answer_in, is_voided};
 use sd_needs::answers::is_newest_of_some;
@@ -32,13 +32,17 @@ fn answer_row(all: &[Entry], answer: Option<Standing<'_>>) -> Result<Option<Row>
     Ok(Some(Row::Answer(a.number, a.moment, key, answered, is_voided(all, a))))
 }
 
-fn hash_row(entry: &Entry, user: &Text, hash: Option<Hash>) -> Result<Option<Row>, Memory>
+fn hash_row(
+    alloc: Global,
+    entry: &Entry,
+    user: &Text,
+    hash: Option<Hash>,
+) -> Result<Option<Row>, Memory>
     ensures { IfOk result (λ row. row ≡ kept.hash_row entry.now user.now hash) }
 {
-    match hash {
-        Some(hash) => Ok(Some(Row::Hash(entry.number, entry.moment, user.copy()?, hash))),
-        None => Ok(None),
-    }
+    let Some(hash) = hash else { return Ok(None) };
+    let (user, hash) = (user.copy()?, Shared::new(alloc, hash)?);
+    Ok(Some(Row::Hash(entry.number, entry.moment, user, hash)))
 }
 
 fn is_unhashed_login(number: u64, login: Option<Login>) -> bool
@@ -50,11 +54,16 @@ fn is_unhashed_login(number: u64, login: Option<Login>) -> bool
     }
 }
 
-fn login_row_of(all: &[Entry], entry: &Entry, user: &Text) -> Result<Option<Row>, Memory>
+fn login_row_of(
+    alloc: Global,
+    all: &[Entry],
+    entry: &Entry,
+    user: &Text,
+) -> Result<Option<Row>, Memory>
     ensures { IfOk result (λ row. row ≡ kept.login_row (reverse all.now) entry.now (Some user.now)) }
 {
     if is_login(entry.number, hash_entry(all, user)) {
-        return hash_row(entry, user, hash_of_event(&entry.event));
+        return hash_row(alloc, entry, user, hash_of_event(&entry.event));
     }
     if is_unhashed_login(entry.number, last_online_login(all, user)) {
         return Ok(Some(Row::Online(entry.number, entry.moment, user.copy()?)));
@@ -63,11 +72,16 @@ fn login_row_of(all: &[Entry], entry: &Entry, user: &Text) -> Result<Option<Row>
 }
 
 /// The row of an online login of a user, where there is a user.
-fn login_row(all: &[Entry], entry: &Entry, user: Option<&Text>) -> Result<Option<Row>, Memory>
+fn login_row(
+    alloc: Global,
+    all: &[Entry],
+    entry: &Entry,
+    user: Option<&Text>,
+) -> Result<Option<Row>, Memory>
     ensures { IfOk result (λ row. row ≡ kept.login_row (reverse all.now) entry.now (option_copied user.entry)) }
 {
     match user {
-        Some(user) => login_row_of(all, entry, user),
+        Some(user) => login_row_of(alloc, all, entry, user),
         None => Ok(None),
     }
 }
@@ -135,24 +149,34 @@ fn wrong_or_fall_row(all: &[Entry], entry: &Entry) -> Result<Option<Row>, Memory
 }
 
 /// The row that is kept of an entry for logins, for guesses or of a server, where one is.
-fn row_beside_answers(all: &[Entry], before: &[Entry], entry: &Entry) -> Result<Option<Row>, Memory>
+fn row_beside_answers(
+    alloc: Global,
+    all: &[Entry],
+    before: &[Entry],
+    entry: &Entry,
+) -> Result<Option<Row>, Memory>
     requires { counts.HasCounts (reverse all.now) }
     ensures { IfOk result (λ row. row ≡ keeps.row_beside_answers (reverse all.now) (reverse before.now) entry.now) }
 {
-    match login_row(all, entry, user_logged_in(before, entry))? {
+    match login_row(alloc, all, entry, user_logged_in(before, entry))? {
         Some(row) => Ok(Some(row)),
         None => wrong_or_fall_row(all, entry),
     }
 }
 
 /// The row that is kept of an entry, where one is; `before` are the entries before it.
-fn row_of(all: &[Entry], before: &[Entry], entry: &Entry) -> Result<Option<Row>, Memory>
+fn row_of(
+    alloc: Global,
+    all: &[Entry],
+    before: &[Entry],
+    entry: &Entry,
+) -> Result<Option<Row>, Memory>
     requires { counts.HasCounts (reverse all.now) }
     ensures { IfOk result (λ row. row ≡ kept.row_of (reverse all.now) (reverse before.now) entry.now) }
 {
     match answer_row(all, answer_in(before, entry))? {
         Some(row) => Ok(Some(row)),
-        None => row_beside_answers(all, before, entry),
+        None => row_beside_answers(alloc, all, before, entry),
     }
 }
 
@@ -174,7 +198,7 @@ fn rows_behind(alloc: Global, head: Row, all: &[Entry]) -> Result<Rows, Memory>
     let mut rows = Rows::new(alloc);
     rows.push(head)?;
     for place in 0..all.len() {
-        let row = row_of(all, &all[..place], &all[place])?;
+        let row = row_of(alloc, all, &all[..place], &all[place])?;
         add_row(&mut rows, row)?;
     }
     Ok(rows)

@@ -34,7 +34,7 @@ pub fn user_logged_in<'a>(before: &'a [Entry], entry: &'a Entry) -> Option<&'a T
     match &entry.event {
         Event::LoginOnline(attempt, outcome) => {
             if is_closed(entry.reply) {
-                user_if_right(hash_carried(outcome), user_of(before, *attempt))
+                user_if_right(hash_carried(outcome.value()), user_of(before, *attempt))
             } else {
                 None
             }

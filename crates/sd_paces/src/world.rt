@@ -144,6 +144,7 @@ pub fn rows(alloc: Global, kind: Kind, users: u32) -> Result<Rows, Memory> {
         salt: [1; 16],
         digest: [2; 64],
     };
+    let hash = Shared::new(alloc, hash)?;
     rows.push(Row::Hash(HASH, 0, name(alloc, 0)?, hash))?;
     for number in 0..users {
         let answered = found_user(alloc, kind, number)?;

@@ -16,11 +16,13 @@ use sd_nss::lookup;
 use sd_rules::{
     Bound, Fetched, Given, LoginStage, LoginStep, LookupStage, LookupStep, Need, Record, Said, Task,
 };
+use std::alloc::Global;
 use std::marker::Model;
 
 /// The words of a login, and how its password is hashed.
 #[derive(Drop)]
 pub struct LoginWords {
+    pub alloc: Global,
     pub user: Text,
     pub password: Text,
     pub salts: Salts,
@@ -70,12 +72,19 @@ fn begun(password: &Text) -> LoginCourse
 
 impl LoginTask {
     /// A login of this user. `cache` says whether hashes of passwords are stored.
-    pub fn new(user: Text, password: Text, salts: Salts, cache: bool) -> LoginTask
+    pub fn new(
+        alloc: Global,
+        user: Text,
+        password: Text,
+        salts: Salts,
+        cache: bool,
+    ) -> LoginTask
         ensures { seen.script result ≡ login_script (record { user = user; password = password; stores = cache; hashing = seen.hashing salts }) }
     {
         let course = begun(&password);
         LoginTask {
             words: LoginWords {
+                alloc,
                 user,
                 password,
                 salts,

@@ -5,7 +5,7 @@ ghost use Rattle.sd_pam.specs.Logins as seen;
 
 use crate::found_user::FoundUser;
 use crate::login::LoginWords;
-use sd_base::{Copied, Memory, Text, Why};
+use sd_base::{Copied, Memory, Shared, Text, Why};
 use sd_creds::{hash, verify};
 use sd_rules::{
     Bound, Event, Given, Hash, LoginResult, LoginStage, LoginStep, Need, Reply, Said, Verdict,
@@ -31,7 +31,10 @@ pub fn need(words: &LoginWords, user: &FoundUser, stage: LoginStage) -> Result<N
         }
         LoginStage::Pick(attempt) => Need::Step(Event::Pick(attempt)),
         LoginStage::Bind(_, server) => Need::Bind(server, user.dn()?, words.password.copy()?),
-        LoginStage::Online(attempt, said) => Need::Step(Event::LoginOnline(attempt, said)),
+        LoginStage::Online(attempt, said) => {
+            let said = Shared::new(words.alloc, said)?;
+            Need::Step(Event::LoginOnline(attempt, said))
+        }
         LoginStage::Fall(attempt, server, why) => Need::Step(Event::Fall(attempt, server, why)),
         LoginStage::Outage(attempt) => Need::Step(Event::Outage(attempt)),
         LoginStage::Look => Need::Step(Event::LoginLook(words.user.copy()?)),

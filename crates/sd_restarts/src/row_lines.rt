@@ -1,5 +1,5 @@
 // The rows of lines, as the rows that are kept are printed.
-use sd_base::Memory;
+use sd_base::{Memory, Shared};
 use sd_rules::Row;
 use sd_steps::events::{HASH, key};
 use sd_steps::records::answered;
@@ -19,7 +19,7 @@ fn other(
     }
     let user = words.text(alloc)?;
     if is(name, b"hash") {
-        Ok(Row::Hash(number, moment, user, HASH))
+        Ok(Row::Hash(number, moment, user, Shared::new(alloc, HASH)?))
     } else if is(name, b"wrong") {
         Ok(Row::Wrong(number, moment, user, words.number()))
     } else {

@@ -96,7 +96,7 @@ fn print_held(out: &mut Vec<u8>, row: &Row) -> Result<(), Memory> {
     match row {
         Row::Head(_, _, _) => Ok(()),
         Row::Answer(_, _, key, answered, voided) => print_answer(out, key, answered, *voided),
-        Row::Hash(_, _, user, hash) => print_hashed(out, user, hash),
+        Row::Hash(_, _, user, hash) => print_hashed(out, user, hash.value()),
         Row::Wrong(_, _, user, count) => print_counted(out, user, *count),
         Row::Fall(_, _, server) => print_number(out, u64::from(*server)),
         Row::Online(_, _, user) => print_word(out, user.bytes()),

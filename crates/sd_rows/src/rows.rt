@@ -97,6 +97,7 @@ fn wrong_or_fall_row(found: &Findings, all: &[Entry], entry: &Entry) -> Result<O
 
 /// The row that is kept of an entry for logins, for guesses or of a server, where one is.
 fn row_beside_answers(
+    alloc: Global,
     found: &Findings,
     all: &[Entry],
     place: usize,
@@ -107,7 +108,7 @@ fn row_beside_answers(
     requires within { place < length all.now }
     ensures { IfOk result (λ row. row ≡ keeps.row_beside_answers (reverse all.now) (reverse (take place all.now)) entry.now) }
 {
-    match login_row(&found.users, entry, user_logged_in(&all[..place], entry))? {
+    match login_row(alloc, &found.users, entry, user_logged_in(&all[..place], entry))? {
         Some(row) => Ok(Some(row)),
         None => wrong_or_fall_row(found, all, entry),
     }
@@ -115,6 +116,7 @@ fn row_beside_answers(
 
 /// The row that is kept of the entry at a place, where one is.
 fn row_of(
+    alloc: Global,
     found: &Findings,
     all: &[Entry],
     place: usize,
@@ -129,7 +131,7 @@ fn row_of(
 {
     match answer_row(found, all, place, entry)? {
         Some(row) => Ok(Some(row)),
-        None => row_beside_answers(found, all, place, entry),
+        None => row_beside_answers(alloc, found, all, place, entry),
     }
 }
 
@@ -153,7 +155,7 @@ fn rows_behind(alloc: Global, head: Row, found: &Findings, all: &[Entry]) -> Res
     let mut rows = Rows::new(alloc);
     rows.push(head)?;
     for place in 0..all.len() {
-        let row = row_of(found, all, place, &all[place])?;
+        let row = row_of(alloc, found, all, place, &all[place])?;
         add_row(&mut rows, row)?;
     }
     Ok(rows)

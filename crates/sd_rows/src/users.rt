@@ -9,12 +9,13 @@ ghost use Rattle.sd_rules.specs.Needed as needed;
 ghost use Rattle.sd_sieve.specs.Falls.{HoldFalls};
 ghost use Rattle.sd_sieve.specs.Users as users;
 
-use sd_base::{Copied, Memory, Text};
+use sd_base::{Copied, Memory, Shared, Text};
 use sd_keeping::readings::hash_of_event;
 use sd_needs::readings::is_number;
 use sd_rules::{Entry, Event, Hash, Row};
 use sd_sieve::servers::{Falls, is_fall_needed};
 use sd_sieve::users::{Names, Users};
+use std::alloc::Global;
 
 /// The number that is kept under a name.
 fn number_under(names: &Names, name: &Text) -> Option<u64>
@@ -39,20 +40,29 @@ fn is_unhashed(found: &Users, number: u64, user: &Text) -> bool
     is_number(number, number_under(&found.logins, user))
 }
 
-fn hash_row(entry: &Entry, user: &Text, hash: Option<Hash>) -> Result<Option<Row>, Memory>
+fn hash_row(
+    alloc: Global,
+    entry: &Entry,
+    user: &Text,
+    hash: Option<Hash>,
+) -> Result<Option<Row>, Memory>
     ensures { IfOk result (λ row. row ≡ kept.hash_row entry.now user.now hash) }
 {
-    match hash {
-        Some(hash) => Ok(Some(Row::Hash(entry.number, entry.moment, user.copy()?, hash))),
-        None => Ok(None),
-    }
+    let Some(hash) = hash else { return Ok(None) };
+    let (user, hash) = (user.copy()?, Shared::new(alloc, hash)?);
+    Ok(Some(Row::Hash(entry.number, entry.moment, user, hash)))
 }
 
-fn login_row_of(found: &Users, entry: &Entry, user: &Text) -> Result<Option<Row>, Memory>
+fn login_row_of(
+    alloc: Global,
+    found: &Users,
+    entry: &Entry,
+    user: &Text,
+) -> Result<Option<Row>, Memory>
     ensures { IfOk result (λ row. (past : List Entry) → users.HoldUsers past found.now → row ≡ kept.login_row past entry.now (Some user.now)) }
 {
     if is_hashed(found, entry.number, user) {
-        return hash_row(entry, user, hash_of_event(&entry.event));
+        return hash_row(alloc, entry, user, hash_of_event(&entry.event));
     }
     if is_unhashed(found, entry.number, user) {
         return Ok(Some(Row::Online(entry.number, entry.moment, user.copy()?)));
@@ -61,11 +71,16 @@ fn login_row_of(found: &Users, entry: &Entry, user: &Text) -> Result<Option<Row>
 }
 
 /// The row of an online login of a user, where there is a user.
-pub fn login_row(found: &Users, entry: &Entry, user: Option<&Text>) -> Result<Option<Row>, Memory>
+pub fn login_row(
+    alloc: Global,
+    found: &Users,
+    entry: &Entry,
+    user: Option<&Text>,
+) -> Result<Option<Row>, Memory>
     ensures { IfOk result (λ row. (past : List Entry) → users.HoldUsers past found.now → row ≡ kept.login_row past entry.now (option_copied user.entry)) }
 {
     match user {
-        Some(user) => login_row_of(found, entry, user),
+        Some(user) => login_row_of(alloc, found, entry, user),
         None => Ok(None),
     }
 }

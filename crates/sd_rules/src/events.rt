@@ -1,7 +1,7 @@
 // What can happen to the daemon: one event is one entry of its journal.
 use crate::keys::{Key, What};
 use crate::records::Answered;
-use sd_base::{Copied, Items, Memory, Text, Why};
+use sd_base::{Copied, Items, Memory, Shared, Text, Why};
 
 /// Why a server refused a lookup.
 #[derive(Clone, Copy, Debug, PartialEq, Eq)]
@@ -38,7 +38,7 @@ pub enum Row {
     /// An answer: number, moment, its key, what was answered, whether it was invalidated.
     Answer(u64, u64, Key, Answered, bool),
     /// The stored hash of a user: number, moment, user, hash.
-    Hash(u64, u64, Text, Hash),
+    Hash(u64, u64, Text, Shared<Hash>),
     /// Wrong guesses since a user was last accepted: number, moment of the last, user, count.
     Wrong(u64, u64, Text, u64),
     /// A fall of a server: number, moment, server.
@@ -50,7 +50,7 @@ pub enum Row {
 /// A list of rows.
 pub type Rows = Items<Row>;
 
-/// One event. A request is named by the number of the entry that led it, a ticket by that of the entry that joined,
+/// One event. What is large and rare is shared, so that no entry has room for it. A request is named by the number of the entry that led it, a ticket by that of the entry that joined,
 /// a login attempt by that of the entry that opened it.
 #[derive(Debug, Drop, PartialEq, Eq)]
 pub enum Event {
@@ -83,7 +83,7 @@ pub enum Event {
     /// A login of this user begins.
     LoginOpen(Text),
     /// A server's verdict on the password of an attempt.
-    LoginOnline(u64, LoginResult),
+    LoginOnline(u64, Shared<LoginResult>),
     /// A login looks for the stored hash of this user.
     LoginLook(Text),
     /// A password was compared with the stored hash of this number: the user, the hash entry, whether it was right.
@@ -104,7 +104,7 @@ impl Copied for Row {
                 Row::Answer(*number, *moment, key.copy()?, answered.copy()?, *voided)
             }
             Row::Hash(number, moment, user, hash) => {
-                Row::Hash(*number, *moment, user.copy()?, *hash)
+                Row::Hash(*number, *moment, user.copy()?, hash.copy()?)
             }
             Row::Wrong(number, moment, user, count) => {
                 Row::Wrong(*number, *moment, user.copy()?, *count)
@@ -132,7 +132,7 @@ impl Copied for Event {
             Event::Online => Event::Online,
             Event::Stop => Event::Stop,
             Event::LoginOpen(user) => Event::LoginOpen(user.copy()?),
-            Event::LoginOnline(attempt, result) => Event::LoginOnline(*attempt, *result),
+            Event::LoginOnline(attempt, said) => Event::LoginOnline(*attempt, said.copy()?),
             Event::LoginLook(user) => Event::LoginLook(user.copy()?),
             Event::LoginGuess(user, named, right) => {
                 Event::LoginGuess(user.copy()?, *named, *right)

@@ -9,6 +9,7 @@ use sd_creds::Salts;
 use sd_nss::NssTask;
 use sd_pam::{AccessTask, LoginTask};
 use sd_rules::{AccessMode, Bound, Fetched, Given, Key, Need, Task};
+use std::alloc::Global;
 
 /// The task of a client.
 #[derive(Drop)]
@@ -38,11 +39,11 @@ impl ClientTask {
 
     #[tactic(auto, using(crate::proofs::TaskLaws::seen_by, crate::proofs::TaskLaws::tied_by))]
     /// A login of a user; `stores` says whether hashes of passwords are stored.
-    pub fn log_in(user: Text, password: Text, stores: bool) -> ClientTask
+    pub fn log_in(alloc: Global, user: Text, password: Text, stores: bool) -> ClientTask
         ensures seen { courses.seen result ≡ courses.login (record { user = user; password = password; stores = stores }) }
         ensures script { courses.script result ≡ courses.script_of (courses.seen result) }
     {
-        ClientTask::LogIn(LoginTask::new(user, password, salts(), stores))
+        ClientTask::LogIn(LoginTask::new(alloc, user, password, salts(), stores))
     }
 
     #[tactic(auto, using(crate::proofs::TaskLaws::seen_by, crate::proofs::TaskLaws::tied_by))]

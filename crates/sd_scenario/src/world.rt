@@ -279,7 +279,7 @@ impl World {
         ensures done { let done = script.task_made self.old (courses.login (script.login_words self.old user password)) in MatchResult result (λ _. done ≡ Ok self.new) (λ stop. Halts stop done self.new.printed) }
     {
         let stores = self.site.config().settings.cache_credentials;
-        self.make_task(ClientTask::log_in(user, password, stores))
+        self.make_task(ClientTask::log_in(self.alloc, user, password, stores))
     }
 
     /// Makes a task that checks an account.

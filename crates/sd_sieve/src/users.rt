@@ -66,7 +66,7 @@ fn user_hashed<'a>(before: &'a [Entry], entry: &'a Entry) -> Option<&'a Text>
 {
     match &entry.event {
         Event::LoginOnline(attempt, outcome) => {
-            if is_closed(entry.reply) && carries_hash(outcome) {
+            if is_closed(entry.reply) && carries_hash(outcome.value()) {
                 user_of(before, *attempt)
             } else {
                 None
@@ -95,7 +95,7 @@ fn user_accepted<'a>(before: &'a [Entry], entry: &'a Entry) -> Option<&'a Text>
 {
     match &entry.event {
         Event::LoginOnline(attempt, outcome) => {
-            if is_right(outcome) && is_closed(entry.reply) {
+            if is_right(outcome.value()) && is_closed(entry.reply) {
                 user_of(before, *attempt)
             } else {
                 None

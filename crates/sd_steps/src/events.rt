@@ -1,7 +1,7 @@
 // The events of worked journals, as a journal prints them.
 use crate::records::answered;
 use crate::words::{Words, cut, is, value};
-use sd_base::{Memory, Text, Why};
+use sd_base::{Memory, Shared, Text, Why};
 use sd_rules::{Event, Hash, Key, LoginResult, Refusal, What};
 use std::alloc::Global;
 
@@ -115,8 +115,6 @@ fn detailed(name: &[u8], words: &mut Words<'_>) -> Option<Event> {
         Some(Event::Fall(words.number(), words.short(), why(words)))
     } else if is(name, b"refuse") {
         Some(Event::Refuse(words.number(), refusal(words)))
-    } else if is(name, b"result") {
-        Some(Event::LoginOnline(words.number(), login_result(words)))
     } else if is(name, b"try") {
         Some(Event::LoginTry(words.number(), words.number(), is(words.word(), b"right")))
     } else {
@@ -155,6 +153,12 @@ fn access(alloc: Global, words: &mut Words<'_>) -> Result<Event, Memory> {
     Ok(Event::Access(user, service))
 }
 
+fn online(alloc: Global, words: &mut Words<'_>) -> Result<Event, Memory> {
+    let attempt = words.number();
+    let said = Shared::new(alloc, login_result(words))?;
+    Ok(Event::LoginOnline(attempt, said))
+}
+
 fn answer(alloc: Global, words: &mut Words<'_>) -> Result<Event, Memory> {
     let request = words.number();
     Ok(Event::Answer(request, answered(alloc, words)?))
@@ -170,6 +174,8 @@ fn of_name(alloc: Global, name: &[u8], words: &mut Words<'_>) -> Result<Option<E
         Ok(Some(answer(alloc, words)?))
     } else if is(name, b"access") {
         Ok(Some(access(alloc, words)?))
+    } else if is(name, b"result") {
+        Ok(Some(online(alloc, words)?))
     } else {
         of_user(alloc, name, words)
     }

@@ -190,7 +190,7 @@ fn push_login_event(alloc: Global, out: &mut Vec<u8>, event: &Event) -> Result<(
 {
     match event {
         Event::LoginOpen(user) => push_worded(out, b"login ", user.bytes()),
-        Event::LoginOnline(attempt, said) => push_online(alloc, out, *attempt, *said),
+        Event::LoginOnline(attempt, said) => push_online(alloc, out, *attempt, *said.value()),
         Event::LoginLook(user) => push_worded(out, b"look ", user.bytes()),
         Event::LoginGuess(user, named, right) => {
             push_guess(alloc, out, user.bytes(), *named, *right)
