@@ -8,9 +8,7 @@ ghost use Rattle.sd_core.specs.Numbered as replies;
 use sd_base::{Copied, Memory, Shared, Text};
 use sd_index::entries::event_at;
 use sd_keeping::readings::hash_of_event;
-use sd_rules::{
-    Answered, By, Entry, Event, Given, Hash, Outcome, Record, Reply, Row, Rule,
-};
+use sd_rules::{Answered, By, Entry, Event, Given, Hash, Outcome, Record, Reply, Row, Rule};
 
 fn record_of(event: &Event) -> Option<&Shared<Record>>
     ensures { option_copied result ≡ steps.record_of event.now }

@@ -46,13 +46,7 @@ impl Client {
 
     /// A login of a user; `stores` says whether hashes of passwords are stored.
     #[tactic(auto, using(crate::proofs::TaskLaws::seen_by, crate::proofs::TaskLaws::tied_by))]
-    pub fn log_in(
-        alloc: Global,
-        salts: Salts,
-        user: Text,
-        password: Text,
-        stores: bool,
-    ) -> Client
+    pub fn log_in(alloc: Global, salts: Salts, user: Text, password: Text, stores: bool) -> Client
         ensures { result ≡ record { seed = salts; course = courses.login (record { user = user; password = password; stores = stores }) } }
     {
         Client {

@@ -72,13 +72,7 @@ fn begun(password: &Text) -> LoginCourse
 
 impl LoginTask {
     /// A login of this user. `cache` says whether hashes of passwords are stored.
-    pub fn new(
-        alloc: Global,
-        user: Text,
-        password: Text,
-        salts: Salts,
-        cache: bool,
-    ) -> LoginTask
+    pub fn new(alloc: Global, user: Text, password: Text, salts: Salts, cache: bool) -> LoginTask
         ensures { seen.script result ≡ login_script (record { user = user; password = password; stores = cache; hashing = seen.hashing salts }) }
     {
         let course = begun(&password);

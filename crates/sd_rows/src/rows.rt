@@ -108,7 +108,12 @@ fn row_beside_answers(
     requires within { place < length all.now }
     ensures { IfOk result (λ row. row ≡ keeps.row_beside_answers (reverse all.now) (reverse (take place all.now)) entry.now) }
 {
-    match login_row(alloc, &found.users, entry, user_logged_in(&all[..place], entry))? {
+    match login_row(
+        alloc,
+        &found.users,
+        entry,
+        user_logged_in(&all[..place], entry),
+    )? {
         Some(row) => Ok(Some(row)),
         None => wrong_or_fall_row(found, all, entry),
     }
