@@ -1,6 +1,6 @@
 -- What is read of a whole blob is its row, and a row's bytes are read as that row.
 use Rattle.std.proofs.Common.{◌≡◌, ℕ, ◌+◌, ◌^◌, ◌<◌, ◌≤◌, ◌-◌, get_or, take, drop, Bool, true, false, ◌&&◌, not, cond, eqb, List, [], ◌∷◌, ◌++◌, length, codes, Option, Some, None, Result, Ok, Err, refl, sym, ap, subst, ◌∙◌, arith, replicate, length-append}
-use Rattle.std.specs.Prelude.{IfOk}
+use Rattle.std.specs.Prelude.{IfOk, IfErr}
 use Rattle.std.proofs.lemmas.Bool.{eqb-true}
 use Rattle.std.proofs.lemmas.List.{append-nil, nil_from_length, length-replicate, take_all}
 use Rattle.std.proofs.lemmas.Option.{cond_some}
@@ -182,6 +182,15 @@ pub no_hash : (bytes : List ℕ) (n m : ℕ) (name hashed : List ℕ) → whole 
 no_hash bytes n m name hashed given none row fits e =
     hash_by bytes row fits e (λ k l user hash is sound there.
     none hash sound (parts_are n m k l name user hashed (text_of hash) (sym given ∙ there)).3)
+
+-- what is made of the parts is the row, or memory was wanting
+pub row_made : (made : Result Row FieldFault) (x : Row) (bytes : List ℕ) → IfOk made (λ (row : Row). row ≡ x) → 2 ∷ bytes ≡ row_bytes x → is_online x ≡ false → IfOk made (λ (row : Row). (2 ∷ bytes ≡ row_bytes row) × (is_online row ≡ false))
+row_made (Ok row) x bytes is e offline = (e ∙ ap row_bytes (sym is), ap is_online is ∙ offline)
+row_made (Err fault) x bytes is e offline = tt
+
+pub row_read : (made : Result Row FieldFault) (x row : Row) → IfOk made (λ (read : Row). read ≡ x) → IfErr made (λ (fault : FieldFault). fault ≡ faults.Memory) → x ≡ row → Reads made row
+row_read (Ok read) x row is failed e = is ∙ e
+row_read (Err fault) x row is failed e = subst (λ (f : FieldFault). Reads (Err f) row) (sym failed) tt
 
 -- ---- the kind of a blob
 

@@ -1,6 +1,7 @@
 use Rattle.std.proofs.Common.{sym, refl, ◌∙◌, arith}
 use Rattle.std.proofs.lemmas.Result.{err_from_is_err_and}
-use Rattle.sd_keeper.proofs.RowCodes.{hash_found, hash_not_read, hash_only, no_hash}
+use Rattle.sd_rules.specs.declared.events.Row.TheVariants as rows
+use Rattle.sd_keeper.proofs.RowCodes.{hash_found, hash_not_read, hash_only, no_hash, row_made, row_read}
 use Rattle.sd_keeper.proofs.rows.hash_row.Goals as goal
 
 pub returns-in_err-hashed-clause-only : goal.returns-in_err-hashed-clause-only
@@ -11,12 +12,14 @@ returns-in_err-hashed-clause-only c =
 pub returns-in-Ok-clause-found : goal.returns-in-Ok-clause-found
 returns-in-Ok-clause-found c =
     let hashed = c.in_ok-hashed.hashed in
-    (hash_found c.args.bytes.now hashed.number hashed.moment hashed.user hashed.text c.in-Ok.hash (record { each = λ i. let fits = c.type_inv.bytes i in omega arith }) c.in_ok-hashed.ensures (sym c.bytes.ensures ∙ c.in-Ok.ensures.ok), refl)
+    row_made c.hash_row_of.result (rows.Hash hashed.number hashed.moment hashed.user c.in-Ok.hash) c.args.bytes.now c.hash_row_of.ensures.ok
+    (hash_found c.args.bytes.now hashed.number hashed.moment hashed.user hashed.text c.in-Ok.hash (record { each = λ i. let fits = c.type_inv.bytes i in omega arith }) c.in_ok-hashed.ensures (sym c.bytes.ensures ∙ c.in-Ok.ensures.ok)) refl
 
 pub returns-in-Ok-clause-only : goal.returns-in-Ok-clause-only
 returns-in-Ok-clause-only c =
     let hashed = c.in_ok-hashed.hashed in
-    hash_only c.args.bytes.now hashed.number hashed.moment hashed.user hashed.text c.in-Ok.hash c.in_ok-hashed.ensures (λ h sound e. c.in-Ok.ensures.whole h sound (c.bytes.ensures ∙ e))
+    λ row fits e. row_read c.hash_row_of.result (rows.Hash hashed.number hashed.moment hashed.user c.in-Ok.hash) row c.hash_row_of.ensures.ok c.hash_row_of.ensures.err
+    (hash_only c.args.bytes.now hashed.number hashed.moment hashed.user hashed.text c.in-Ok.hash c.in_ok-hashed.ensures (λ h sound is. c.in-Ok.ensures.whole h sound (c.bytes.ensures ∙ is)) row fits e)
 
 pub returns-in-Err-clause-only : goal.returns-in-Err-clause-only
 returns-in-Err-clause-only c =
