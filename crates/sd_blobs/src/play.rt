@@ -7,10 +7,15 @@ use sd_rules::{Row, Rows};
 use std::alloc::Global;
 
 /// A keeper, and what was printed.
-#[derive(Drop)]
 pub struct Play {
     keeper: MemoryKeeper,
     out: Vec<u8>,
+}
+
+impl Drop for Play {
+    fn drop(self) {
+        let Play { keeper: _, out: _ } = self;
+    }
 }
 
 fn print_line(out: &mut Vec<u8>, line: &[u8]) -> Result<(), Memory> {

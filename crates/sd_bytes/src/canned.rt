@@ -7,7 +7,6 @@ use sd_link::{Link, LinkFailed};
 use std::alloc::Global;
 
 /// A link that gives these bytes, once or without end, and keeps what it is sent. It tells nothing.
-#[derive(Drop)]
 pub struct Canned {
     alloc: Global,
     bytes: Vec<u8>,
@@ -15,6 +14,19 @@ pub struct Canned {
     is_endless: bool,
     pieces: Blobs,
     faults: u64,
+}
+
+impl Drop for Canned {
+    fn drop(self) {
+        let Canned {
+            alloc: _,
+            bytes: _,
+            at: _,
+            is_endless: _,
+            pieces: _,
+            faults: _,
+        } = self;
+    }
 }
 
 impl Canned {

@@ -14,10 +14,18 @@ use sd_stub::Directory;
 use std::alloc::Global;
 
 /// The directory, and what was printed.
-#[derive(Drop)]
 pub struct Play {
     directory: Directory,
     out: Vec<u8>,
+}
+
+impl Drop for Play {
+    fn drop(self) {
+        let Play {
+            directory: _,
+            out: _,
+        } = self;
+    }
 }
 
 /// The lines in front of the first dot alone, and what comes behind it.

@@ -1,7 +1,7 @@
 // What a daemon finds.
-use crate::lines::{cut_line, cut_word, number};
 use crate::requests::push_request;
 use sd_base::{Blobs, Memory, Numbers, Text};
+use sd_plays::{cut_line, cut_word, number};
 use std::alloc::Global;
 
 /// The configuration of each daemon, in front of its own lines.
@@ -17,7 +17,7 @@ cache_credentials = TRUE
 ";
 
 /// The store that a daemon is given.
-#[derive(Clone, Copy, Debug, PartialEq, Eq)]
+#[derive(Clone, Copy, PartialEq, Eq)]
 pub enum StoreWord {
     None,
     Own,

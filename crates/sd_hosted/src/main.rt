@@ -18,21 +18,17 @@ mod case;
 mod doors;
 mod host;
 mod keeper;
-mod lines;
 mod play;
 mod requests;
 
 use case::Case;
-use lines::{cut_line, cut_text};
 use play::Player;
-use sd_base::{Memory, ReaderSource, WriterSink, read_all, write_all};
+use sd_base::{Memory, ReaderSource, WriterSink};
+use sd_plays::{Failure, cut_line, cut_text, print, read};
 use std::alloc::Global;
 use std::process::ExitCode;
 use std::sync::Wait;
 use std::thread::Threads;
-
-/// The longest input, in bytes.
-const LIMIT: usize = 1 << 20;
 
 /// What all daemons of a text write and leave.
 fn play_all<R: Threads + Wait + Sync>(
@@ -57,18 +53,20 @@ fn play_all<R: Threads + Wait + Sync>(
     Ok(out)
 }
 
+/// What the daemons of an input write and leave.
+fn made<R: Threads + Wait + Sync>(
+    rt: &R,
+    alloc: Global,
+    text: Result<Vec<u8>, Failure>,
+) -> Result<Vec<u8>, Failure> {
+    let text = text?;
+    Ok(play_all(rt, alloc, text.as_slice())?)
+}
+
 fn main(rt: HostRuntime) -> ExitCode {
-    let alloc = rt.alloc();
-    let mut source = ReaderSource::new(rt.stdin());
-    let mut sink = WriterSink::new(rt.stdout());
-    let Ok(text) = read_all(alloc, &mut source, LIMIT) else {
-        return ExitCode::from(3);
-    };
-    let Ok(out) = play_all(&rt, alloc, text.as_slice()) else {
-        return ExitCode::from(7);
-    };
-    match write_all(&mut sink, out.as_slice()) {
-        Ok(()) => ExitCode::from(0),
-        Err(_) => ExitCode::from(4),
-    }
+    let text = read(rt.alloc(), &mut ReaderSource::new(rt.stdin()));
+    print(
+        &mut WriterSink::new(rt.stdout()),
+        made(&rt, rt.alloc(), text),
+    )
 }

@@ -1,6 +1,6 @@
 // The requests of worked clients.
-use crate::lines::{cut_word, number};
 use sd_base::{Memory, Text};
+use sd_plays::{cut_word, number};
 use sd_wire::{Request, write_frame};
 use std::alloc::Global;
 

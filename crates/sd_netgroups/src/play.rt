@@ -1,7 +1,7 @@
 // One case, and how it is played.
-use crate::lines::{cut_line, cut_word, number};
 use sd_base::{Memory, MemorySink, MemorySource, Numbers};
 use sd_netgroup::netgroup_tool;
+use sd_plays::{cut_line, cut_word, number};
 use std::alloc::Global;
 
 /// The configuration, where a case gives none.

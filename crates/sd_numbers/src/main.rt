@@ -7,17 +7,13 @@
 // `% many N` adds so many domains first.
 #![tactic(auto)]
 
-mod lines;
 mod play;
 
-use lines::{cut_line, cut_text};
 use play::Play;
-use sd_base::{Memory, ReaderSource, WriterSink, read_all, write_all};
+use sd_base::{Memory, ReaderSource, WriterSink};
+use sd_plays::{Failure, cut_line, cut_text, print, read};
 use std::alloc::Global;
 use std::process::ExitCode;
-
-/// The longest input, in bytes.
-const LIMIT: usize = 1 << 20;
 
 /// What all texts come to.
 fn play_all(alloc: Global, text: &[u8]) -> Result<Vec<u8>, Memory> {
@@ -37,22 +33,11 @@ fn play_all(alloc: Global, text: &[u8]) -> Result<Vec<u8>, Memory> {
     Ok(out)
 }
 
-fn run(rt: &HostRuntime) -> u8 {
-    let alloc = rt.alloc();
-    let mut source = ReaderSource::new(rt.stdin());
-    let mut sink = WriterSink::new(rt.stdout());
-    let Ok(text) = read_all(alloc, &mut source, LIMIT) else {
-        return 3;
-    };
-    let Ok(out) = play_all(alloc, text.as_slice()) else {
-        return 7;
-    };
-    match write_all(&mut sink, out.as_slice()) {
-        Ok(()) => 0,
-        Err(_) => 4,
-    }
+fn made(rt: &HostRuntime) -> Result<Vec<u8>, Failure> {
+    let text = read(rt.alloc(), &mut ReaderSource::new(rt.stdin()))?;
+    Ok(play_all(rt.alloc(), text.as_slice())?)
 }
 
 fn main(rt: HostRuntime) -> ExitCode {
-    ExitCode::from(run(&rt))
+    print(&mut WriterSink::new(rt.stdout()), made(&rt))
 }

@@ -1,7 +1,7 @@
 // One text, and how it is played.
-use crate::lines::{cut_line, cut_word, number};
 use sd_base::{Memory, MemorySink, MemorySource, Numbers};
 use sd_idmap::{SidFault, idmap, murmur, read_sid};
+use sd_plays::{cut_line, cut_word, number};
 use std::alloc::Global;
 
 /// How many bytes `#` a text may be made of.

@@ -13,11 +13,20 @@ use std::alloc::Global;
 use std::mem;
 
 /// The cores, the rows with which they are opened next, and what was printed.
-#[derive(Drop)]
 pub struct Play {
     cores: Cores,
     rows: Rows,
     out: Vec<u8>,
+}
+
+impl Drop for Play {
+    fn drop(self) {
+        let Play {
+            cores: _,
+            rows: _,
+            out: _,
+        } = self;
+    }
 }
 
 impl Play {

@@ -1,6 +1,6 @@
 // One scenario, and how it is played.
-use crate::lines::{cut_line, cut_word, number};
 use sd_base::{Memory, MemorySink, MemorySource, Numbers};
+use sd_plays::{cut_line, cut_word, number};
 use sd_scenario::scenario;
 use std::alloc::Global;
 

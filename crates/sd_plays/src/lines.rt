@@ -1,4 +1,4 @@
-// The lines of the input.
+//! The lines of a stored text.
 
 /// A text in front of a place and from another place on.
 fn cut(text: &[u8], end: usize, next: usize) -> (&[u8], &[u8]) {
@@ -6,24 +6,26 @@ fn cut(text: &[u8], end: usize, next: usize) -> (&[u8], &[u8]) {
     (&text[..end.min(len)], &text[next.min(len)..])
 }
 
-/// The first line without its end, and what comes behind it.
-pub fn cut_line(text: &[u8]) -> (&[u8], &[u8]) {
-    match text.iter().position(|byte| *byte == b'\n') {
+/// What stands in front of the first such byte, and what comes behind it.
+fn cut_at(text: &[u8], end: u8) -> (&[u8], &[u8]) {
+    match text.iter().position(|byte| *byte == end) {
         Some(place) => cut(text, place, place + 1),
         None => (text, &[]),
     }
+}
+
+/// The first line without its end, and what comes behind it.
+pub fn cut_line(text: &[u8]) -> (&[u8], &[u8]) {
+    cut_at(text, b'\n')
 }
 
 /// The word in front of the first space, and what comes behind it.
 pub fn cut_word(text: &[u8]) -> (&[u8], &[u8]) {
-    match text.iter().position(|byte| *byte == b' ') {
-        Some(place) => cut(text, place, place + 1),
-        None => (text, &[]),
-    }
+    cut_at(text, b' ')
 }
 
-/// The lines up to the next name, and what comes from there on.
-pub fn cut_scenario(text: &[u8]) -> (&[u8], &[u8]) {
+/// The lines up to the next that begins with `== `, and what comes from there on.
+pub fn cut_text(text: &[u8]) -> (&[u8], &[u8]) {
     let mut is_first = true;
     for place in 0..text.len() {
         if is_first && text[place..].starts_with(b"== ") {
