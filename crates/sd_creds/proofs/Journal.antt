@@ -4,7 +4,7 @@ use Rattle.std.specs.Option.{option_map}
 use Rattle.sd_rules.specs.declared.settings.Settings.{Settings}
 use Rattle.sd_rules.specs.declared.replies.Entry.{Entry}
 use Rattle.sd_rules.specs.Logins as logins
-use Rattle.sd_creds.specs.declared.limits.Login.{Login}
+use Rattle.sd_rules.specs.declared.limits.Login.{Login}
 use Rattle.sd_creds.specs.declared.marks.Mark.{Mark}
 use Rattle.sd_creds.specs.Seen as seen
 use Rattle.sd_creds.specs.Marks as marked

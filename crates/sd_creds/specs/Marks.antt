@@ -7,7 +7,7 @@ use Rattle.sd_rules.specs.declared.replies.Entry.{Entry}
 use Rattle.sd_rules.specs.declared.replies.Verdict.{Verdict}
 use Rattle.sd_rules.specs.Keys.{same_name}
 use Rattle.sd_rules.specs.Logins as logins
-use Rattle.sd_creds.specs.declared.limits.Login.{Login}
+use Rattle.sd_rules.specs.declared.limits.Login.{Login}
 use Rattle.sd_creds.specs.declared.marks.Mark.{Mark}
 use Rattle.sd_creds.specs.Seen as seen
 

@@ -2,14 +2,12 @@
 #![tactic(auto)]
 
 pub mod hashes;
-pub mod limits;
 pub mod marks;
 pub mod salts;
 pub mod texts;
 pub mod verdicts;
 
 pub use hashes::{hash, verify};
-pub use limits::Login;
 pub use marks::{Mark, Marks};
 pub use salts::Salts;
 pub use texts::{HashFault, hash_text, read_hash};

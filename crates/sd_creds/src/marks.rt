@@ -6,16 +6,16 @@ ghost use Rattle.sd_rules.specs.Logins as logins;
 ghost use Rattle.sd_rules.specs.declared.replies.Entry.{Entry};
 ghost use Rattle.sd_creds.specs.Seen as seen;
 
-use crate::limits::Login;
 use crate::verdicts::{cached_login, verdict_of, verdict_of_try};
 use sd_base::{Copied, Memory, Text};
+use sd_rules::limits::Login;
 use sd_rules::{Settings, Verdict};
 use std::alloc::Global;
 use std::collections::HashMap;
 use std::marker::Model;
 
 /// What is kept of one user's logins.
-#[derive(Clone, Copy, Debug)]
+#[derive(Clone, Copy)]
 pub struct Mark {
     /// The last online login that carries a hash.
     pub hash: Option<Login>,
@@ -28,9 +28,14 @@ pub struct Mark {
 }
 
 /// The marks of all users; contracts see them as users with their marks, of which only the look-ups count.
-#[derive(Drop)]
 pub struct Marks {
     marks: HashMap<Text, Mark>,
+}
+
+impl Drop for Marks {
+    fn drop(self) {
+        let Marks { marks: _ } = self;
+    }
 }
 
 impl Model for Marks {

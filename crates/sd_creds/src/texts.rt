@@ -19,7 +19,7 @@ const SALT_LEN: usize = 24;
 const DIGEST_LEN: usize = 88;
 
 /// Why a text is not read.
-#[derive(Clone, Copy, Debug, PartialEq, Eq)]
+#[derive(Clone, Copy, PartialEq, Eq)]
 pub enum HashFault {
     /// It is no hash's.
     Bad,

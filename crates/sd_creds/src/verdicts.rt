@@ -4,8 +4,8 @@ ghost use Rattle.std.specs.Option.{option_map};
 ghost use Rattle.sd_creds.specs.Marks as marked;
 ghost use Rattle.sd_creds.specs.Seen as seen;
 
-use crate::limits::{Login, only_hashed, still_cached, verdict_by_hash, verdict_by_login};
 use crate::marks::Mark;
+use sd_rules::limits::{Login, only_hashed, still_cached, verdict_by_hash, verdict_by_login};
 use sd_rules::{Settings, Verdict};
 
 fn usable_hash(settings: &Settings, mark: &Mark) -> Option<Login>
@@ -25,7 +25,7 @@ pub fn verdict_of(settings: &Settings, t: u64, mark: &Mark, named: u64, right: b
     verdict_by_hash(
         settings,
         t,
-        mark.wrong_count,
+        u128::from(mark.wrong_count),
         mark.last_wrong,
         usable_hash(settings, mark),
         named,

@@ -5,26 +5,15 @@ use Rattle.sd_rules.specs.declared.events.Event.TheVariants.{Pick, Fall, Answer,
 use Rattle.sd_rules.specs.declared.replies.Reply.{Reply}
 use Rattle.sd_rules.specs.declared.replies.Reply.TheVariants.{Lead, Refresh, Join, Bind, Cached, Closed, Shut, Tried, Took, NoRequest, NoTicket}
 use Rattle.sd_rules.specs.declared.replies.Verdict.TheVariants.{Accepted}
+use Rattle.sd_rules.specs.Leading as led
 
 -- the request or attempt that an event is about
 abbrev pub about : Event → Option ℕ
-about (Pick n) = Some n
-about (Fall n server why) = Some n
-about (Answer n answered) = Some n
-about (Refuse n refusal) = Some n
-about (Outage n) = Some n
-about (Abandon n) = Some n
-about (LoginOnline n result) = Some n
-about (LoginTry n login right) = Some n
-about _ = None
+about e = led.about e
 
 -- the request or attempt that a reply says is led
 abbrev pub opened : Reply → Option ℕ
-opened (Lead request) = Some request
-opened (Refresh n request) = Some request
-opened (Bind attempt) = Some attempt
-opened (Cached attempt login) = Some attempt
-opened _ = None
+opened reply = led.opened reply
 
 -- a reply that closes the request or attempt of its event, or says that it is not open
 abbrev pub is_closing : Reply → Bool
@@ -35,19 +24,16 @@ is_closing NoRequest = true
 is_closing _ = false
 
 abbrev pub place_in : List ℕ → ℕ → ℕ
-place_in [] n = 0
-place_in (m ∷ ms) n = if m == n then 0 else place_in ms n + 1
+place_in ms n = led.place_in ms n
 
 abbrev pub without_place : List ℕ → ℕ → List ℕ
-without_place ms place = if nat_lt place (length ms) then remove ms place else ms
+without_place ms place = led.without_place ms place
 
 abbrev pub without : List ℕ → Option ℕ → List ℕ
-without ms None = ms
-without ms (Some n) = without_place ms (place_in ms n)
+without ms n = led.without ms n
 
 abbrev pub with_one : List ℕ → Option ℕ → List ℕ
-with_one ms None = ms
-with_one ms (Some n) = ms ++ n ∷ []
+with_one ms n = led.with_one ms n
 
 -- what is led after a reply to its event about the number n
 abbrev pub leads_after : List ℕ → Option ℕ → Reply → List ℕ

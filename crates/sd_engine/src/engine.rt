@@ -13,7 +13,7 @@ ghost use Rattle.sd_engine.specs.Turns as turns;
 use crate::answering::{Answered, answer};
 use crate::ending::SessionEnd;
 use crate::hearing::{client_of, is_stop};
-use crate::leading::{about, make_room, ticket_after, update_leads};
+use crate::leading::{make_room, ticket_after, update_leads};
 use crate::listening::{Listened, listen};
 use sd_base::{Memory, Sink, Source, Text};
 use sd_clock::Gate;
@@ -23,6 +23,7 @@ use sd_creds::Salts;
 use sd_dial::Dialer;
 use sd_inbox::Inbox;
 use sd_inquiry::{bind_at, fetch_at};
+use sd_rules::leading::about;
 use sd_rules::{Bound, Event, Fetched, Given, Key, Need, Said, Settings};
 use sd_wire::Request;
 use std::alloc::Global;
@@ -30,7 +31,7 @@ use std::marker::Model;
 use std::mem;
 
 /// What a turn came to.
-#[derive(Debug, Drop)]
+#[derive(Drop)]
 pub enum Turn {
     /// The session goes on with its next turn.
     Again,

@@ -3,36 +3,8 @@ ghost use Rattle.std.specs.Prelude.{◌≡◌, ◌<◌, OnOk, vec_len, vec_capac
 ghost use Rattle.sd_engine.specs.Leading as leading;
 
 use sd_base::Memory;
-use sd_rules::{Event, Reply, Verdict};
-
-/// The request or attempt that an event is about.
-pub fn about(event: &Event) -> Option<u64>
-    ensures { result ≡ leading.about event.now }
-{
-    match event {
-        Event::Pick(number)
-        | Event::Fall(number, _, _)
-        | Event::Answer(number, _)
-        | Event::Refuse(number, _)
-        | Event::Outage(number)
-        | Event::Abandon(number)
-        | Event::LoginOnline(number, _)
-        | Event::LoginTry(number, _, _) => Some(*number),
-        _ => None,
-    }
-}
-
-fn opened(reply: Reply) -> Option<u64>
-    ensures { result ≡ leading.opened reply }
-{
-    match reply {
-        Reply::Lead(number)
-        | Reply::Refresh(_, number)
-        | Reply::Bind(number)
-        | Reply::Cached(number, _) => Some(number),
-        _ => None,
-    }
-}
+use sd_rules::leading::{opened, take_out};
+use sd_rules::{Reply, Verdict};
 
 fn is_closing(reply: Reply) -> bool
     ensures { result ≡ leading.is_closing reply }
@@ -41,29 +13,6 @@ fn is_closing(reply: Reply) -> bool
         reply,
         Reply::Closed | Reply::Shut(_) | Reply::Tried(Verdict::Accepted) | Reply::NoRequest
     )
-}
-
-fn place_in(numbers: &[u64], number: u64) -> usize
-    ensures { result ≡ leading.place_in numbers.now number }
-{
-    for (place, other) in numbers.iter().enumerate() {
-        if *other == number {
-            return place;
-        }
-    }
-    numbers.len()
-}
-
-fn take_out(numbers: &mut Vec<u64>, number: Option<u64>)
-    ensures { numbers.new.items ≡ leading.without numbers.old.items number }
-{
-    let Some(number) = number else {
-        return;
-    };
-    let place = place_in(numbers.as_slice(), number);
-    if place < numbers.len() {
-        numbers.remove(place);
-    }
 }
 
 /// Makes room for one more.

@@ -11,7 +11,7 @@ use sd_wire::{Framed, Request, read_frame};
 use std::alloc::Global;
 
 /// What came of listening.
-#[derive(Debug, Drop)]
+#[derive(Drop)]
 pub enum Listened {
     /// A frame was there.
     Heard(Request),

@@ -16,7 +16,7 @@ TakenBy takes.Bytes piece left' old new room reads = (new ≡ old ++ piece) × (
 TakenBy takes.End piece left' old new room reads = (piece ≡ []) × IsAtEnd left' × (new ≡ old)
 TakenBy takes.Over piece left' old new room reads = (0 < length piece) × (room ≡ 0) × (new ≡ old)
 TakenBy takes.Failed piece left' old new room reads = (piece ≡ []) × reads × (new ≡ old)
-TakenBy takes.Memory piece left' old new room reads = new ≡ old
+TakenBy takes.Memory piece left' old new room reads = (new ≡ old) × (length piece ≤ room)
 
 pub record Takes (taken : Taken) (left left' : Option (List ℕ)) (old new : List ℕ) (room : ℕ) (reads : Type 0) : Type 0 where
   pub piece : List ℕ

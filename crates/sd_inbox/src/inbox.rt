@@ -3,7 +3,7 @@ ghost use Rattle.std.specs.Prelude.{◌≡◌, ◌+◌, ◌-◌, ◌≤◌, [], 
 ghost use Rattle.sd_base.specs.Causes.{Rose};
 ghost use Rattle.sd_inbox.specs.Taking.{Arrives};
 
-use crate::taking::{LIMIT, Taken, take_more};
+use crate::taking::{LIMIT, Taken, drop_front, take_more};
 use sd_base::Source;
 use std::alloc::Global;
 use std::marker::Model;
@@ -26,19 +26,6 @@ impl Model for Inbox {
     ghost view = { λ i. record { place = i.before + i.at; bytes = drop i.at i.bytes.items } };
 
     ghost invariant = { λ i. (i.at ≤ length i.bytes.items) × (i.before + length i.bytes.items ≤ 1073741824) };
-}
-
-/// Takes away so many bytes in front.
-fn drop_front(bytes: &mut Vec<u8>, count: usize)
-    requires { count ≤ length bytes.old.items }
-    ensures { bytes.new.items ≡ drop count bytes.old.items }
-{
-    if count == 0 {
-        return;
-    }
-    let left = bytes.len() - count;
-    bytes.rotate_left(count);
-    bytes.truncate(left);
 }
 
 impl Inbox {

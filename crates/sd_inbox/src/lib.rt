@@ -5,4 +5,4 @@ mod inbox;
 mod taking;
 
 pub use inbox::Inbox;
-pub use taking::{LIMIT, Taken};
+pub use taking::{LIMIT, Taken, drop_front, take_more};

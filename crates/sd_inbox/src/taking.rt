@@ -1,5 +1,5 @@
 //! Taking bytes from a source.
-ghost use Rattle.std.specs.Prelude.{◌≡◌, ◌≤◌};
+ghost use Rattle.std.specs.Prelude.{◌≡◌, ◌≤◌, length, drop};
 ghost use Rattle.sd_base.specs.Causes.{Rose};
 ghost use Rattle.sd_inbox.specs.Taking.{Takes};
 
@@ -12,7 +12,7 @@ pub const LIMIT: usize = 1_073_741_824;
 const CHUNK: usize = 4096;
 
 /// What came of taking.
-#[derive(Clone, Copy, Debug, PartialEq, Eq)]
+#[derive(Clone, Copy, PartialEq, Eq)]
 pub enum Taken {
     Bytes,
     /// No byte is left.
@@ -45,4 +45,17 @@ pub fn take_more<S: Source>(source: &mut S, bytes: &mut Vec<u8>, room: usize) ->
         return Taken::Memory;
     }
     Taken::Bytes
+}
+
+/// Takes away so many bytes in front.
+pub fn drop_front(bytes: &mut Vec<u8>, count: usize)
+    requires { count ≤ length bytes.old.items }
+    ensures { bytes.new.items ≡ drop count bytes.old.items }
+{
+    if count == 0 {
+        return;
+    }
+    let left = bytes.len() - count;
+    bytes.rotate_left(count);
+    bytes.truncate(left);
 }

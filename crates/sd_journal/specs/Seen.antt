@@ -2,7 +2,7 @@
 use Rattle.sd_rules.specs.Past as past
 use Rattle.sd_rules.specs.Logins as logins
 use Rattle.sd_journal.specs.declared.past.Standing.{Standing}
-use Rattle.sd_journal.specs.declared.logins.Login.{Login}
+use Rattle.sd_rules.specs.declared.limits.Login.{Login}
 
 abbrev pub standing : Standing → past.Standing
 standing a = record { number = a.number; moment = a.moment; own = a.own.now; answered = a.answered.now; marked = a.marked }

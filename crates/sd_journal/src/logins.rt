@@ -4,23 +4,11 @@ ghost use Rattle.std.specs.Option.{option_copied, option_map};
 ghost use Rattle.sd_rules.specs.Logins as logins;
 ghost use Rattle.sd_journal.specs.Seen as seen;
 
-use crate::past::{is_closed, is_within};
+use crate::past::is_closed;
 use crate::requests::is_try_accepted;
 use sd_base::Text;
+use sd_rules::limits::{Login, only_hashed, still_cached, verdict_by_hash, verdict_by_login};
 use sd_rules::{Entry, Event, LoginResult, Reply, Row, Settings, Verdict};
-
-/// The seconds of a day and of a minute.
-const DAY: u64 = 86400;
-
-const MINUTE: u64 = 60;
-
-/// An online login as it stands among the entries, and whether it carries a hash.
-#[derive(Clone, Copy)]
-pub struct Login {
-    pub number: u64,
-    pub moment: u64,
-    pub hashed: bool,
-}
 
 fn user_opened(event: &Event) -> Option<&Text>
     ensures { option_copied result ≡ logins.user_opened event.now }
@@ -120,15 +108,6 @@ pub fn last_online_login(entries: &[Entry], user: &Text) -> Option<Login>
     None
 }
 
-fn only_hashed(login: Option<Login>) -> Option<Login>
-    ensures { option_map seen.login result ≡ logins.only_hashed (option_map seen.login login) }
-{
-    match login {
-        Some(l) => { if l.hashed { Some(l) } else { None } }
-        None => None,
-    }
-}
-
 /// The hash entry of a user: the last online login that carries a hash.
 pub fn hash_entry(entries: &[Entry], user: &Text) -> Option<Login>
     ensures { option_map seen.login result ≡ logins.hash_entry (reverse entries.now) user.now }
@@ -226,100 +205,6 @@ fn last_wrong(entries: &[Entry], user: &Text) -> Option<u64>
     None
 }
 
-/// The last moment at which the hash of a login may be used.
-fn expiry_of(settings: &Settings, login: Login) -> u128
-    ensures { result ≡ logins.expiry_of settings.now (seen.login login) }
-{
-    u128::from(login.moment) + u128::from(DAY * u64::from(settings.expiration_days))
-}
-
-/// The expiry of a login's hash, where it has passed.
-fn expired(settings: &Settings, t: u64, login: Login) -> Option<u64>
-    ensures { result ≡ (if logins.is_expired settings.now t (seen.login login) then Some (logins.expiry_of settings.now (seen.login login)) else None) }
-{
-    let expiry = expiry_of(settings, login);
-    if settings.expiration_days != 0 && expiry < u128::from(t) {
-        Some(expiry as u64)
-    } else {
-        None
-    }
-}
-
-fn is_at_limit(settings: &Settings, wrong: u128) -> bool
-    ensures { result ≡ logins.is_at_limit settings.now wrong }
-{
-    if settings.attempts == 0 || wrong == 0 {
-        return false;
-    }
-    wrong % u128::from(settings.attempts) == 0
-}
-
-fn block_until(settings: &Settings, t: u64, wrong: Option<u64>) -> Option<Verdict>
-    ensures { result ≡ logins.block_until settings.now t wrong }
-{
-    let wrong = wrong?;
-    if settings.delay_minutes == 0 {
-        return Some(Verdict::Blocked(None));
-    }
-    let delay = MINUTE * u64::from(settings.delay_minutes);
-    if is_within(wrong, delay, t) {
-        Some(Verdict::Blocked(Some(wrong.saturating_add(delay))))
-    } else {
-        None
-    }
-}
-
-fn block_of(settings: &Settings, t: u64, count: u128, last: Option<u64>) -> Option<Verdict>
-    ensures { result ≡ logins.block_of settings.now t count last }
-{
-    if is_at_limit(settings, count) {
-        block_until(settings, t, last)
-    } else {
-        None
-    }
-}
-
-fn verdict_by_guess(login: Login, named: u64, right: bool) -> Verdict
-    ensures { result ≡ logins.verdict_by_guess (seen.login login) named right }
-{
-    if login.number != named {
-        Verdict::Stale(login.number)
-    } else if right {
-        Verdict::Accepted
-    } else {
-        Verdict::Wrong
-    }
-}
-
-fn verdict_unless_blocked(block: Option<Verdict>, login: Login, named: u64, right: bool) -> Verdict
-    ensures { result ≡ logins.verdict_unless_blocked block (seen.login login) named right }
-{
-    match block {
-        Some(verdict) => verdict,
-        None => verdict_by_guess(login, named, right),
-    }
-}
-
-fn verdict_by_hash(
-    settings: &Settings,
-    t: u64,
-    count: u128,
-    last: Option<u64>,
-    login: Option<Login>,
-    named: u64,
-    right: bool,
-) -> Verdict
-    ensures { result ≡ logins.verdict_by_hash settings.now t count last (option_map seen.login login) named right }
-{
-    match login {
-        Some(l) => match expired(settings, t, l) {
-            Some(expiry) => Verdict::Expired(expiry),
-            None => verdict_unless_blocked(block_of(settings, t, count, last), l, named, right),
-        },
-        None => Verdict::Unknown,
-    }
-}
-
 /// The hash entry of a user, where hashes are used.
 pub fn usable_hash(settings: &Settings, entries: &[Entry], user: &Text) -> Option<Login>
     ensures { option_map seen.login result ≡ logins.usable_hash settings.now (reverse entries.now) user.now }
@@ -357,21 +242,6 @@ fn usable_login(settings: &Settings, entries: &[Entry], user: &Text) -> Option<L
     }
 }
 
-fn still_cached(settings: &Settings, t: u64, login: Option<Login>) -> Option<u64>
-    ensures { result ≡ logins.still_cached settings.now t (option_map seen.login login) }
-{
-    match login {
-        Some(l) => {
-            if is_within(l.moment, u64::from(settings.cached_auth_timeout), t) {
-                Some(l.number)
-            } else {
-                None
-            }
-        }
-        None => None,
-    }
-}
-
 /// The online login whose hash a login may use while the directory can be reached.
 pub fn cached_login(settings: &Settings, entries: &[Entry], t: u64, user: &Text) -> Option<u64>
     ensures { result ≡ logins.cached_login settings.now (reverse entries.now) t user.now }
@@ -380,28 +250,6 @@ pub fn cached_login(settings: &Settings, entries: &[Entry], t: u64, user: &Text)
         return None;
     }
     still_cached(settings, t, usable_login(settings, entries, user))
-}
-
-fn verdict_by_login(
-    settings: &Settings,
-    t: u64,
-    login: Option<Login>,
-    named: u64,
-    right: bool,
-) -> Verdict
-    ensures { result ≡ logins.verdict_by_login settings.now t (option_map seen.login login) named right }
-{
-    match login {
-        Some(l) => {
-            let span = u64::from(settings.cached_auth_timeout);
-            if is_within(l.moment, span, t) {
-                verdict_by_guess(l, named, right)
-            } else {
-                Verdict::Expired(l.moment.saturating_add(span))
-            }
-        }
-        None => Verdict::Unknown,
-    }
 }
 
 /// The verdict on a try, which compared the password with the hash of the online login `named`.

@@ -12,7 +12,7 @@ use sd_rules::{Entry, Event, Reply, Row, Rows};
 use std::alloc::Global;
 
 /// A journal as it is opened: the number that its next entry has, the least moment that it has, in seconds, and its entries.
-#[derive(Debug, Drop, PartialEq, Eq)]
+#[derive(Drop)]
 pub struct OpenJournal {
     pub next: u64,
     pub floor: u64,

@@ -10,11 +10,12 @@ ghost use Rattle.sd_keeping.specs.Opening as opening;
 
 use crate::readings::{hash_of_event, last_wrong, least_moment, next_number, wrong_count};
 use sd_base::{Copied, Memory, Shared, Text};
-use sd_journal::logins::{Login, hash_entry, last_online_login, wrongs};
+use sd_journal::logins::{hash_entry, last_online_login, wrongs};
 use sd_journal::past::{Standing, answer_in, is_voided};
 use sd_needs::answers::is_newest_of_some;
 use sd_needs::readings::{is_login, is_number, user_guessed, user_logged_in};
 use sd_needs::servers::last_fall;
+use sd_rules::limits::Login;
 use sd_rules::{Entry, Event, Hash, Row, Rows};
 use std::alloc::Global;
 

@@ -5,8 +5,9 @@ ghost use Rattle.sd_rules.specs.Needed as needed;
 ghost use Rattle.sd_journal.specs.Seen as seen;
 
 use sd_base::Text;
-use sd_journal::logins::{Login, hash_carried, user_of};
+use sd_journal::logins::{hash_carried, user_of};
 use sd_journal::past::is_closed;
+use sd_rules::limits::Login;
 use sd_rules::{Entry, Event, Row};
 
 fn user_if_right(hashed: Option<bool>, user: Option<&Text>) -> Option<&Text>

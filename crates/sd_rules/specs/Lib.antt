@@ -4,6 +4,8 @@ pub mod Requests
 pub mod Servers
 pub mod Answers
 pub mod Logins
+pub mod Limits
+pub mod Leading
 pub mod Access
 pub mod TextBytes
 pub mod Steps

@@ -20,7 +20,7 @@ pub struct Hash {
 }
 
 /// What a server said of a password.
-#[derive(Clone, Copy, Debug, PartialEq, Eq)]
+#[derive(Clone, Copy, PartialEq, Eq)]
 pub enum LoginResult {
     /// It is right; its hash, where passwords are kept.
     Right(Option<Hash>),
@@ -52,7 +52,7 @@ pub type Rows = Items<Row>;
 
 /// One event. What is large and rare is shared, so that no entry has room for it. A request is named by the number of the entry that led it, a ticket by that of the entry that joined,
 /// a login attempt by that of the entry that opened it.
-#[derive(Debug, Drop, PartialEq, Eq)]
+#[derive(Drop, PartialEq, Eq)]
 pub enum Event {
     /// A client asks for a key.
     Ask(Key),

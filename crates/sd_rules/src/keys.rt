@@ -35,7 +35,7 @@ impl Copied for Key {
 }
 
 /// Which answers an invalidation covers, as the options of sss_cache(8) name them.
-#[derive(Debug, Drop, PartialEq, Eq)]
+#[derive(Drop, PartialEq, Eq)]
 pub enum What {
     /// Every answer.
     All,

@@ -3,6 +3,8 @@
 
 pub mod events;
 pub mod keys;
+pub mod leading;
+pub mod limits;
 pub mod records;
 pub mod replies;
 pub mod scripts;

@@ -1,8 +1,10 @@
 // What the directory tells of users, groups, this host and the access rules.
+ghost use Rattle.std.specs.Prelude.{◌≡◌};
+
 use sd_base::{Copied, Items, Memory, Shared, Text, Texts};
 
 /// A user: posixAccount of RFC 2307.
-#[derive(Debug, Drop, PartialEq, Eq)]
+#[derive(Debug, PartialEq, Eq)]
 pub struct User {
     pub dn: Text,
     pub name: Text,
@@ -13,13 +15,71 @@ pub struct User {
     pub shell: Text,
 }
 
+impl Drop for User {
+    fn drop(self) {
+        let User {
+            dn: _,
+            name: _,
+            uid: _,
+            gid: _,
+            gecos: _,
+            home: _,
+            shell: _,
+        } = self;
+    }
+}
+
+impl User {
+    /// Its name.
+    pub fn into_name(self) -> Text
+        ensures { result ≡ self.name }
+    {
+        let User {
+            dn: _,
+            name,
+            uid: _,
+            gid: _,
+            gecos: _,
+            home: _,
+            shell: _,
+        } = self;
+        name
+    }
+}
+
 /// A group, whose members are user names in byte order: posixGroup, with members by name as RFC 2307bis nests them.
-#[derive(Debug, Drop, PartialEq, Eq)]
+#[derive(Debug, PartialEq, Eq)]
 pub struct Group {
     pub dn: Text,
     pub name: Text,
     pub gid: u32,
     pub members: Texts,
+}
+
+impl Drop for Group {
+    fn drop(self) {
+        let Group {
+            dn: _,
+            name: _,
+            gid: _,
+            members: _,
+        } = self;
+    }
+}
+
+impl Group {
+    /// Its name.
+    pub fn into_name(self) -> Text
+        ensures { result ≡ self.name }
+    {
+        let Group {
+            dn: _,
+            name,
+            gid: _,
+            members: _,
+        } = self;
+        name
+    }
 }
 
 /// A group that a user is in; its number is there where the directory gives one.
@@ -33,29 +93,51 @@ pub struct GroupRef {
 pub type GroupRefs = Items<GroupRef>;
 
 /// The groups of a user, in byte order of their names.
-#[derive(Debug, Drop, PartialEq, Eq)]
+#[derive(Debug, PartialEq, Eq)]
 pub struct Groups {
     pub user: Text,
     pub groups: GroupRefs,
 }
 
+impl Drop for Groups {
+    fn drop(self) {
+        let Groups { user: _, groups: _ } = self;
+    }
+}
+
 /// A host and its host groups.
-#[derive(Debug, Drop, PartialEq, Eq)]
+#[derive(Debug, PartialEq, Eq)]
 pub struct Host {
     pub name: Text,
     pub groups: Texts,
 }
 
+impl Drop for Host {
+    fn drop(self) {
+        let Host { name: _, groups: _ } = self;
+    }
+}
+
 /// One side of an access rule: everything, or things by name and by group.
-#[derive(Debug, Drop, PartialEq, Eq)]
+#[derive(Debug, PartialEq, Eq)]
 pub struct Element {
     pub all: bool,
     pub names: Texts,
     pub groups: Texts,
 }
 
+impl Drop for Element {
+    fn drop(self) {
+        let Element {
+            all: _,
+            names: _,
+            groups: _,
+        } = self;
+    }
+}
+
 /// An access rule: ipaHBACRule of FreeIPA.
-#[derive(Debug, Drop, PartialEq, Eq)]
+#[derive(Debug, PartialEq, Eq)]
 pub struct Rule {
     pub name: Text,
     pub enabled: bool,
@@ -64,11 +146,29 @@ pub struct Rule {
     pub services: Element,
 }
 
+impl Drop for Rule {
+    fn drop(self) {
+        let Rule {
+            name: _,
+            enabled: _,
+            users: _,
+            hosts: _,
+            services: _,
+        } = self;
+    }
+}
+
 /// A service that rules name, and its service groups: ipaHBACService of FreeIPA.
-#[derive(Debug, Drop, PartialEq, Eq)]
+#[derive(Debug, PartialEq, Eq)]
 pub struct Service {
     pub name: Text,
     pub groups: Texts,
+}
+
+impl Drop for Service {
+    fn drop(self) {
+        let Service { name: _, groups: _ } = self;
+    }
 }
 
 /// A list of access rules.
@@ -78,10 +178,19 @@ pub type RuleList = Items<Rule>;
 pub type ServiceList = Items<Service>;
 
 /// All access rules and services of the directory, in its order.
-#[derive(Debug, Drop, PartialEq, Eq)]
+#[derive(Debug, PartialEq, Eq)]
 pub struct RuleBook {
     pub rules: RuleList,
     pub services: ServiceList,
+}
+
+impl Drop for RuleBook {
+    fn drop(self) {
+        let RuleBook {
+            rules: _,
+            services: _,
+        } = self;
+    }
 }
 
 /// What the directory found for a key.

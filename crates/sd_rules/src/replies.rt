@@ -128,7 +128,7 @@ pub enum Reply {
 }
 
 /// An entry of the journal. Numbers rise from 1; moments are whole seconds and never fall.
-#[derive(Debug, Drop, PartialEq, Eq)]
+#[derive(Drop, PartialEq, Eq)]
 pub struct Entry {
     pub number: u64,
     pub moment: u64,
@@ -140,7 +140,7 @@ pub struct Entry {
 pub type Journal = Items<Entry>;
 
 /// What a step gives to who made the event: the entry's number and reply, and what the reply names.
-#[derive(Debug, Drop, PartialEq, Eq)]
+#[derive(Drop, PartialEq, Eq)]
 pub struct Given {
     pub number: u64,
     pub reply: Reply,
@@ -161,7 +161,7 @@ pub enum StepFault {
 }
 
 /// A refused step hands its event back.
-#[derive(Debug, Drop, PartialEq, Eq)]
+#[derive(Drop, PartialEq, Eq)]
 pub struct Refused {
     pub fault: StepFault,
     pub event: Event,

@@ -6,7 +6,7 @@ use crate::tasks::Said;
 use sd_base::{Items, Why};
 
 /// How far the lookup of a key has come. A request and a ticket are named by the numbers of their entries.
-#[derive(Debug, Drop)]
+#[derive(Drop)]
 pub enum LookupStage {
     /// The key is to be asked for.
     Ask,
@@ -27,7 +27,7 @@ pub enum LookupStage {
 }
 
 /// What a reply leads a lookup to.
-#[derive(Debug, Drop)]
+#[derive(Drop)]
 pub enum LookupStep {
     /// It goes on.
     Next(LookupStage),
@@ -38,7 +38,7 @@ pub enum LookupStep {
 }
 
 /// How far a client's request for a key has come.
-#[derive(Debug, Drop)]
+#[derive(Drop)]
 pub enum LookupCourse {
     /// The key is looked up.
     Looking(LookupStage),
@@ -53,7 +53,7 @@ pub enum LookupCourse {
 }
 
 /// A request that a script leads to renew an answer, after its client was told.
-#[derive(Debug, Drop)]
+#[derive(Drop)]
 pub struct Led {
     pub request: u64,
     pub key: Key,
@@ -63,7 +63,7 @@ pub struct Led {
 pub type LedList = Items<Led>;
 
 /// How far the login of a user that was found has come. An attempt is named by the number of its entry.
-#[derive(Clone, Copy, Debug)]
+#[derive(Clone, Copy)]
 pub enum LoginStage {
     /// The login is to be opened.
     Open,
@@ -86,7 +86,7 @@ pub enum LoginStage {
 }
 
 /// What a reply leads a login to.
-#[derive(Debug, Drop)]
+#[derive(Drop)]
 pub enum LoginStep {
     /// It goes on.
     Next(LoginStage),

@@ -2,7 +2,7 @@
 use sd_base::{Copied, Memory, Text, Texts};
 
 /// What decides account checks: access_provider of sssd.conf(5).
-#[derive(Clone, Copy, Debug, PartialEq, Eq)]
+#[derive(Clone, Copy, PartialEq, Eq)]
 pub enum AccessMode {
     Permit,
     Deny,
@@ -11,7 +11,6 @@ pub enum AccessMode {
 }
 
 /// The lists of sssd-simple(5).
-#[derive(Debug, Drop, PartialEq, Eq)]
 pub struct SimpleLists {
     pub allow_users: Texts,
     pub deny_users: Texts,
@@ -19,8 +18,18 @@ pub struct SimpleLists {
     pub deny_groups: Texts,
 }
 
+impl Drop for SimpleLists {
+    fn drop(self) {
+        let SimpleLists {
+            allow_users: _,
+            deny_users: _,
+            allow_groups: _,
+            deny_groups: _,
+        } = self;
+    }
+}
+
 /// The options that replies rest on; times are seconds where nothing else is said.
-#[derive(Debug, Drop, PartialEq, Eq)]
 pub struct Settings {
     /// How long a found user is fresh: entry_cache_user_timeout.
     pub user_timeout: u32,
@@ -58,6 +67,32 @@ pub struct Settings {
     pub simple: SimpleLists,
     /// This host's name: ipa_hostname.
     pub hostname: Text,
+}
+
+impl Drop for Settings {
+    fn drop(self) {
+        let Settings {
+            user_timeout: _,
+            group_timeout: _,
+            negative_timeout: _,
+            nowait: _,
+            offline_timeout: _,
+            hbac_refresh: _,
+            expiration_days: _,
+            attempts: _,
+            delay_minutes: _,
+            cached_auth_timeout: _,
+            journal_limit: _,
+            primaries: _,
+            backups: _,
+            cache_credentials: _,
+            filter_users: _,
+            filter_groups: _,
+            access: _,
+            simple: _,
+            hostname: _,
+        } = self;
+    }
 }
 
 impl Copied for SimpleLists {

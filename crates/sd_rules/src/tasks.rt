@@ -19,7 +19,7 @@ pub struct Who<'a> {
 }
 
 /// What the lookup of a key at a server came to.
-#[derive(Debug, Drop, PartialEq, Eq)]
+#[derive(Drop)]
 pub enum Fetched {
     Found(Shared<Record>),
     Absent,
@@ -32,7 +32,7 @@ pub enum Fetched {
 }
 
 /// What a bind at a server came to.
-#[derive(Clone, Copy, Debug, PartialEq, Eq)]
+#[derive(Clone, Copy, PartialEq, Eq)]
 pub enum Bound {
     /// The result code received, 0 for success.
     Code(u32),
@@ -41,7 +41,7 @@ pub enum Bound {
 }
 
 /// What a client is told. Numbers are those of entries, moments are seconds.
-#[derive(Debug, Drop, PartialEq, Eq)]
+#[derive(Drop)]
 pub enum Said {
     Found(u64, Shared<Record>),
     Absent(u64),
@@ -70,7 +70,7 @@ pub enum Said {
 }
 
 /// What a client's request needs next.
-#[derive(Debug, Drop, PartialEq, Eq)]
+#[derive(Drop)]
 pub enum Need {
     /// This event is to be stepped.
     Step(Event),

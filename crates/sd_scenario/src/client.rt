@@ -6,12 +6,12 @@ ghost use Rattle.sd_scenario.specs.Courses as courses;
 
 use crate::task::ClientTask;
 use sd_base::Memory;
+use sd_rules::leading::{about, opened, take_out};
 use sd_rules::{Bound, Event, Fetched, Given, Need, Reply, Verdict};
 use std::alloc::Global;
 use std::marker::Model;
 
 /// A client of a scenario.
-#[derive(Drop)]
 pub struct Client {
     task: ClientTask,
     /// The requests that it leads, by the numbers of their entries.
@@ -21,6 +21,18 @@ pub struct Client {
     /// Whether its answer was printed.
     is_told: bool,
     is_over: bool,
+}
+
+impl Drop for Client {
+    fn drop(self) {
+        let Client {
+            task: _,
+            leads: _,
+            ticket: _,
+            is_told: _,
+            is_over: _,
+        } = self;
+    }
 }
 
 impl Model for Client {
@@ -42,35 +54,6 @@ impl Model for Client {
     ghost invariant = { λ c. courses.script c.task ≡ courses.script_of (courses.seen c.task) };
 }
 
-/// The request or attempt that an event is about.
-pub fn about(event: &Event) -> Option<u64>
-    ensures { result ≡ clients.about event.now }
-{
-    match event {
-        Event::Pick(number)
-        | Event::Fall(number, _, _)
-        | Event::Answer(number, _)
-        | Event::Refuse(number, _)
-        | Event::Outage(number)
-        | Event::Abandon(number)
-        | Event::LoginOnline(number, _)
-        | Event::LoginTry(number, _, _) => Some(*number),
-        _ => None,
-    }
-}
-
-fn opened(reply: Reply) -> Option<u64>
-    ensures { result ≡ clients.opened reply }
-{
-    match reply {
-        Reply::Lead(number)
-        | Reply::Refresh(_, number)
-        | Reply::Bind(number)
-        | Reply::Cached(number, _) => Some(number),
-        _ => None,
-    }
-}
-
 fn is_closing(reply: Reply) -> bool
     ensures { result ≡ clients.is_closing reply }
 {
@@ -78,29 +61,6 @@ fn is_closing(reply: Reply) -> bool
         reply,
         Reply::Closed | Reply::Shut(_) | Reply::Tried(Verdict::Accepted)
     )
-}
-
-fn place_in(numbers: &[u64], number: u64) -> usize
-    ensures { result ≡ clients.place_in numbers.now number }
-{
-    for (place, other) in numbers.iter().enumerate() {
-        if *other == number {
-            return place;
-        }
-    }
-    numbers.len()
-}
-
-fn take_out(numbers: &mut Vec<u64>, number: Option<u64>)
-    ensures { numbers.new.items ≡ clients.without numbers.old.items number }
-{
-    let Some(number) = number else {
-        return;
-    };
-    let place = place_in(numbers.as_slice(), number);
-    if place < numbers.len() {
-        numbers.remove(place);
-    }
 }
 
 fn put_in(numbers: &mut Vec<u64>, number: Option<u64>) -> Result<(), Memory>

@@ -5,7 +5,7 @@ ghost use Rattle.sd_scenario.specs.Modes as modes;
 use sd_stub::Mode;
 
 /// A server that behaves otherwise from here on.
-#[derive(Clone, Copy, Debug)]
+#[derive(Clone, Copy)]
 pub struct Change {
     pub server: u32,
     pub mode: Mode,

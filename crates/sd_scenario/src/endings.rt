@@ -47,10 +47,18 @@ pub const TOO_LONG: Status = 8;
 pub const LIMIT: usize = 16777216;
 
 /// A status, and what is written before it.
-#[derive(Debug, Drop)]
 pub struct Ending {
     pub status: Status,
     pub output: Bytes,
+}
+
+impl Drop for Ending {
+    fn drop(self) {
+        let Ending {
+            status: _,
+            output: _,
+        } = self;
+    }
 }
 
 /// The end at a line without a form.

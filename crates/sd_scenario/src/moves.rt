@@ -15,7 +15,7 @@ ghost use Rattle.sd_scenario.specs.Stops.{Fails, Halts};
 ghost use Rattle.sd_scenario.specs.Tasks as tasks;
 ghost use Rattle.sd_scenario.specs.Transcript as script;
 
-use crate::client::{Client, about};
+use crate::client::Client;
 use crate::directory::{Change, mode_of};
 use crate::stop::Stop;
 use sd_base::{Memory, Text};
@@ -23,6 +23,7 @@ use sd_conf::Config;
 use sd_core::{Core, Look};
 use sd_ldap::DirEntry;
 use sd_provider::{ShortDirectory, bound_at, fetched_at};
+use sd_rules::leading::about;
 use sd_rules::{Bound, Event, Fetched, Given, Key, Need, Said, StepFault};
 use sd_stub::Mode;
 use sd_wire::fields::{push_bytes, push_number};
@@ -31,12 +32,22 @@ use std::alloc::Global;
 use std::marker::Model;
 
 /// What surrounds the tasks of a scenario.
-#[derive(Drop)]
 pub struct Site {
     config: Config,
     directory: ShortDirectory,
     changes: Vec<Change>,
     moment: u64,
+}
+
+impl Drop for Site {
+    fn drop(self) {
+        let Site {
+            config: _,
+            directory: _,
+            changes: _,
+            moment: _,
+        } = self;
+    }
 }
 
 impl Model for Site {

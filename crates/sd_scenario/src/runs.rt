@@ -14,7 +14,7 @@ use sd_layout::first_statement;
 use std::alloc::Global;
 
 /// What a scenario prints.
-#[derive(Debug, Drop)]
+#[derive(Drop)]
 pub struct Printed {
     pub text: Bytes,
     /// Whether a full journal ended it.

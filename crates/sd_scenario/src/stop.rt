@@ -5,7 +5,7 @@ ghost use Rattle.sd_scenario.specs.declared.stop.Stop.TheVariants as stops;
 use sd_base::Memory;
 
 /// Why a scenario ends before its last line.
-#[derive(Clone, Copy, Debug, PartialEq, Eq)]
+#[derive(Clone, Copy, PartialEq, Eq)]
 pub enum Stop {
     /// A step was refused as full; the entries kept and the places reserved.
     Full(u64),

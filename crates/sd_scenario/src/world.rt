@@ -31,7 +31,6 @@ use std::alloc::Global;
 use std::marker::Model;
 
 /// What a scenario works on.
-#[derive(Drop)]
 pub struct World {
     alloc: Global,
     core: Core,
@@ -41,6 +40,20 @@ pub struct World {
     limit: u32,
     is_held: bool,
     out: Vec<u8>,
+}
+
+impl Drop for World {
+    fn drop(self) {
+        let World {
+            alloc: _,
+            core: _,
+            site: _,
+            clients: _,
+            limit: _,
+            is_held: _,
+            out: _,
+        } = self;
+    }
 }
 
 impl Model for World {

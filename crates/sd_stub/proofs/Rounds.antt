@@ -9,9 +9,10 @@ use Rattle.sd_stub.specs.declared.ending.LinkEnd.{LinkEnd}
 use Rattle.sd_stub.specs.declared.ending.LinkEnd.TheVariants as ends
 use Rattle.sd_stub.specs.declared.stepping.Stop.{Stop}
 use Rattle.sd_stub.specs.declared.stepping.Stop.TheVariants as stops
-use Rattle.sd_stub.specs.declared.taking.Taken.TheVariants as takes
+use Rattle.sd_inbox.specs.declared.taking.Taken.TheVariants as takes
+use Rattle.sd_inbox.specs.Taking.{Takes}
 use Rattle.sd_stub.specs.Saying.{ended_of}
-use Rattle.sd_stub.specs.Passing.{PassesTo, Takes, Stands}
+use Rattle.sd_stub.specs.Passing.{PassesTo, Stands}
 use Rattle.sd_stub.specs.Serving.{Served}
 use Rattle.sd_stub.proofs.Standing.{StandsTo, stands_to, stands_taken, stands_still, stands_waiting}
 use Rattle.sd_stub.proofs.LinkEnds.{ends_at_end, ends_read_fault, ends_unstored, ends_over}
@@ -83,4 +84,4 @@ pub unstored : (entries : List DirEntry) (left between left' held held' : Option
     → Served entries ends.Memory left left' held held' r1 w1
 unstored entries left between left' held held' place room unread new reads writes r1 w1 r t e =
     let w : Stands entries left between held held' place unread × (decode_of unread ≡ unfinished) = stands_waiting entries left between held held' place unread writes r.stands in
-    ends_unstored entries left between left' held held' place unread t.piece r1 w1 w.0 t.consumed (omega (arith, t.by, e, r.few))
+    ends_unstored entries left between left' held held' place unread t.piece r1 w1 w.0 t.consumed (omega (arith, t.by.1, e, r.few))

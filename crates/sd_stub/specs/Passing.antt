@@ -13,8 +13,6 @@ use Rattle.sd_stub.specs.declared.stepping.Front.{Front}
 use Rattle.sd_stub.specs.declared.stepping.Front.TheVariants.{Passed, Stopped}
 use Rattle.sd_stub.specs.declared.ending.LinkEnd.{LinkEnd}
 use Rattle.sd_stub.specs.declared.ending.LinkEnd.TheVariants as ends
-use Rattle.sd_stub.specs.declared.taking.Taken.{Taken}
-use Rattle.sd_stub.specs.declared.taking.Taken.TheVariants as takes
 use Rattle.sd_stub.specs.Saying.{Said, is_unbind, said_from, answers}
 
 -- some messages, and then what else is said
@@ -60,20 +58,6 @@ pub record PassesTo (entries : List DirEntry) (bytes : List ℕ) (used : ℕ) (s
   pub between : Option (List ℕ)
   pub passes : Passes entries bytes used held between
   pub stops : Stops entries stop (decode_of (drop used bytes)) between held' writes
-
--- how a piece was taken; room is what may still be read over the link
-abbrev pub TakenBy : Taken → List ℕ → Option (List ℕ) → List ℕ → List ℕ → ℕ → Type 0 → Type 0
-TakenBy takes.Bytes piece left' old new room reads = (new ≡ old ++ piece) × (0 < length piece) × (length piece ≤ room)
-TakenBy takes.End piece left' old new room reads = (piece ≡ []) × IsAtEnd left' × (new ≡ old)
-TakenBy takes.Over piece left' old new room reads = (0 < length piece) × (room ≡ 0)
-TakenBy takes.Failed piece left' old new room reads = (piece ≡ []) × reads
-TakenBy takes.Memory piece left' old new room reads = length piece ≤ room
-
-pub record Takes (taken : Taken) (left left' : Option (List ℕ)) (old new : List ℕ) (room : ℕ) (reads : Type 0) : Type 0 where
-  pub piece : List ℕ
-  pub consumed : Consumes left left' piece
-  pub few : length piece ≤ max room 1
-  pub by : TakenBy taken piece left' old new room reads
 
 -- Where a link stands: the bytes taken say the messages that were answered, and then what the unread bytes say,
 -- which begin at a place of the input.

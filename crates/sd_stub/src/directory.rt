@@ -30,7 +30,6 @@ const FEWEST: usize = 1024;
 ///
 /// A put, a removal and a bind take the time of a lookup in a map. Places that the index has of entries that are gone
 /// stay in it until it is made anew: after as many puts and removals as there were places when it was made last.
-#[derive(Drop)]
 pub struct Directory {
     alloc: Global,
     slots: Slots,
@@ -38,6 +37,18 @@ pub struct Directory {
     index: Index,
     /// How many more puts and removals there are before the index is made anew.
     left: usize,
+}
+
+impl Drop for Directory {
+    fn drop(self) {
+        let Directory {
+            alloc: _,
+            slots: _,
+            names: _,
+            index: _,
+            left: _,
+        } = self;
+    }
 }
 
 impl Model for Directory {

@@ -1,7 +1,7 @@
 //! How a link ends.
 
 /// How the serving of a link ended.
-#[derive(Clone, Copy, Debug, PartialEq, Eq)]
+#[derive(Clone, Copy, PartialEq, Eq)]
 pub enum LinkEnd {
     /// The input ended between two messages.
     Closed,

@@ -4,7 +4,7 @@ ghost use Rattle.sd_stub.specs.declared.fault.StubFault.TheVariants as faults;
 
 use sd_base::Memory;
 
-#[derive(Clone, Copy, Debug, PartialEq, Eq)]
+#[derive(Clone, Copy, PartialEq, Eq)]
 pub enum StubFault {
     /// It is no message: the place of the first wrong element, the end of a request that is less than a
     /// message, or the end of the message where more follows.

@@ -62,9 +62,14 @@ impl Places {
 }
 
 /// The places of entries by the buckets of their numbers. The first bucket is that of the number 0 alone.
-#[derive(Drop)]
 pub struct Index {
     buckets: Vec<Places>,
+}
+
+impl Drop for Index {
+    fn drop(self) {
+        let Index { buckets: _ } = self;
+    }
 }
 
 impl Model for Index {

@@ -15,7 +15,6 @@ mod searching;
 mod sending;
 mod serving;
 mod stepping;
-mod taking;
 
 pub use directory::Directory;
 pub use ending::LinkEnd;
@@ -23,7 +22,7 @@ pub use fault::StubFault;
 pub use serving::serve_link;
 
 /// How a server of a directory behaves.
-#[derive(Clone, Copy, Debug, PartialEq, Eq)]
+#[derive(Clone, Copy, PartialEq, Eq)]
 pub enum Mode {
     Up,
     /// It takes no link.

@@ -15,10 +15,15 @@ use std::alloc::Global;
 use std::marker::Model;
 
 /// An entry, and the DN that its text spells, where it spells one.
-#[derive(Drop)]
 pub struct Placed {
     entry: DirEntry,
     dn: Option<Dn>,
+}
+
+impl Drop for Placed {
+    fn drop(self) {
+        let Placed { entry: _, dn: _ } = self;
+    }
 }
 
 /// The entries of a directory by their places, and the places of those that were taken out.

@@ -7,8 +7,8 @@ ghost use Rattle.sd_stub.specs.Serving.{ServedOver, IsToldEnd};
 use crate::directory::Directory;
 use crate::ending::LinkEnd;
 use crate::stepping::{Stop, answer_all};
-use crate::taking::{Taken, drop_front, take_more};
 use sd_base::{Sink, Source};
+use sd_inbox::{Taken, drop_front, take_more};
 
 /// How many bytes are read over one link: 1 GiB. One more may be taken, by which it is known that the input goes on.
 const LIMIT: usize = 1_073_741_824;

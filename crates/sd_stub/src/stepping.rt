@@ -11,7 +11,7 @@ use sd_base::{Sink, WriteFault, write_all};
 use sd_ldap::{Decoded, Message, Operation, decode};
 
 /// Why answering stops.
-#[derive(Clone, Copy, Debug, PartialEq, Eq)]
+#[derive(Clone, Copy, PartialEq, Eq)]
 pub enum Stop {
     /// Less than a whole message is there.
     Waits,
@@ -23,7 +23,7 @@ pub enum Stop {
 }
 
 /// What came of the message in front.
-#[derive(Clone, Copy, Debug, PartialEq, Eq)]
+#[derive(Clone, Copy, PartialEq, Eq)]
 pub enum Front {
     /// It was answered; the number of its bytes.
     Passed(u64),

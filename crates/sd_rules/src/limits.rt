@@ -2,9 +2,10 @@
 ghost use Rattle.std.specs.Prelude.{◌≡◌, ◌+◌, ℕ, Some, None, if◌then◌else◌, nat_lt};
 ghost use Rattle.std.specs.Option.{option_map};
 ghost use Rattle.sd_rules.specs.Logins as logins;
-ghost use Rattle.sd_creds.specs.Seen as seen;
+ghost use Rattle.sd_rules.specs.Limits as seen;
 
-use sd_rules::{Settings, Verdict};
+use crate::replies::Verdict;
+use crate::settings::Settings;
 
 /// The seconds of a day.
 const DAY: u64 = 86400;
@@ -13,7 +14,7 @@ const DAY: u64 = 86400;
 const MINUTE: u64 = 60;
 
 /// An online login: the number and the moment of its entry, and whether it carries a hash.
-#[derive(Clone, Copy, Debug)]
+#[derive(Clone, Copy)]
 pub struct Login {
     pub number: u64,
     pub moment: u64,
@@ -57,13 +58,13 @@ fn expired(settings: &Settings, t: u64, login: Login) -> Option<u64>
 }
 
 /// Whether so many wrong guesses block.
-fn is_at_limit(settings: &Settings, wrong: u64) -> bool
+fn is_at_limit(settings: &Settings, wrong: u128) -> bool
     ensures { result ≡ logins.is_at_limit settings.now wrong }
 {
     if settings.attempts == 0 || wrong == 0 {
         return false;
     }
-    wrong % u64::from(settings.attempts) == 0
+    wrong % u128::from(settings.attempts) == 0
 }
 
 /// The block by a wrong guess at a moment, where it stands at t.
@@ -106,7 +107,7 @@ fn verdict_unless_blocked(block: Option<Verdict>, login: Login, named: u64, righ
 }
 
 /// The block that so many wrong guesses, of which the last was at a moment, bring at t.
-fn block_of(settings: &Settings, t: u64, wrongs: u64, last_wrong: Option<u64>) -> Option<Verdict>
+fn block_of(settings: &Settings, t: u64, wrongs: u128, last_wrong: Option<u64>) -> Option<Verdict>
     ensures { result ≡ logins.block_of settings.now t wrongs last_wrong }
 {
     if is_at_limit(settings, wrongs) {
@@ -120,7 +121,7 @@ fn block_of(settings: &Settings, t: u64, wrongs: u64, last_wrong: Option<u64>) -
 pub fn verdict_by_hash(
     settings: &Settings,
     t: u64,
-    wrongs: u64,
+    wrongs: u128,
     last_wrong: Option<u64>,
     login: Option<Login>,
     named: u64,
