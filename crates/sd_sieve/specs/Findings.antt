@@ -55,13 +55,13 @@ awaited all (e ∷ past) =
 
 -- what was found is that of a journal, given the oldest first
 pub record IsFound (entries : List Entry) (f : Findings) : Type 0 where
-  pub newest : MarkNewest entries f.newest.items
-  pub lasts : HoldVoids (reverse entries) f.lasts
-  pub firsts : HoldCovered (reverse entries) (reverse entries) f.lasts f.firsts
-  pub askings : f.askings.items ≡ askings (reverse entries) (reverse entries)
-  pub awaited : f.awaited.items ≡ awaited (reverse entries) (reverse entries)
-  pub users : HoldUsers (reverse entries) f.users
-  pub falls : HoldFalls (reverse entries) f.falls.entries
-  pub outage : f.outage ≡ last_outage (reverse entries)
-  pub online : f.online ≡ last_where (λ (x : Entry). is_online x.event) (reverse entries)
-  pub stop : f.stop ≡ last_where (λ (x : Entry). is_stop x.event) (reverse entries)
+  pub newest : MarkNewest entries f.walk.outline.newest.items
+  pub lasts : HoldVoids (reverse entries) f.walk.notes.lasts
+  pub firsts : HoldCovered (reverse entries) (reverse entries) f.walk.notes.lasts f.firsts
+  pub askings : f.walk.notes.askings.items ≡ askings (reverse entries) (reverse entries)
+  pub awaited : f.walk.notes.awaited.items ≡ awaited (reverse entries) (reverse entries)
+  pub users : HoldUsers (reverse entries) f.walk.outline.users
+  pub falls : HoldFalls (reverse entries) f.walk.outline.falls.entries
+  pub outage : f.walk.notes.outage ≡ last_outage (reverse entries)
+  pub online : f.walk.notes.online ≡ last_where (λ (x : Entry). is_online x.event) (reverse entries)
+  pub stop : f.walk.notes.stop ≡ last_where (λ (x : Entry). is_stop x.event) (reverse entries)

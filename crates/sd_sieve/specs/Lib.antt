@@ -6,5 +6,6 @@ pub mod Outlines
 pub mod Covers
 pub mod Findings
 pub mod Notes
+pub mod Walks
 pub mod Readings
 pub mod Plans

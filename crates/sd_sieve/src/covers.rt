@@ -20,13 +20,24 @@ use std::alloc::Global;
 
 /// Numbers of entries, by what an invalidation can name. Only names that an administrator invalidates have one, so hashes need no
 /// secret.
-#[derive(Drop)]
 pub struct ByWhat {
     pub all: Option<u64>,
     pub users: Option<u64>,
     pub groups: Option<u64>,
     pub user_names: Names,
     pub group_names: Names,
+}
+
+impl Drop for ByWhat {
+    fn drop(self) {
+        let ByWhat {
+            all: _,
+            users: _,
+            groups: _,
+            user_names: _,
+            group_names: _,
+        } = self;
+    }
 }
 
 /// No numbers.

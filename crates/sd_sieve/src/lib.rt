@@ -15,6 +15,7 @@ pub mod sieve;
 pub mod tickets;
 pub mod users;
 pub mod voids;
+pub mod walk;
 pub mod whole;
 
 pub use sieve::{Plan, Sifted, plan_of, sift};

@@ -58,7 +58,7 @@ fn is_last(all: &[Entry], entry: &Entry) -> bool
 fn is_last_stop(found: &Findings, entry: &Entry) -> bool
     ensures { (all : List Entry) → findings.IsFound all found.now → result ≡ needed.is_last_stop (reverse all) entry.now }
 {
-    is_stop(&entry.event) && is_number(entry.number, found.stop)
+    is_stop(&entry.event) && is_number(entry.number, found.walk.notes.stop)
 }
 
 fn is_of_end(all: &[Entry], found: &Findings, entry: &Entry) -> bool
@@ -78,10 +78,11 @@ fn is_of_logins(whole: Whole<'_>, found: &Findings, place: usize, entry: &Entry)
 {
     let all = whole.entries;
     let user = user_logged_in(&all[..place], entry);
-    if is_login_needed(&found.users, entry.number, user) {
+    if is_login_needed(&found.walk.outline.users, entry.number, user) {
         return true;
     }
-    is_wrong_needed(&found.users, entry, user_guessed(&entry.event)) || is_of_end(all, found, entry)
+    is_wrong_needed(&found.walk.outline.users, entry, user_guessed(&entry.event))
+        || is_of_end(all, found, entry)
 }
 
 fn has(numbers: &[u64], number: u64) -> bool
@@ -94,7 +95,7 @@ fn has(numbers: &[u64], number: u64) -> bool
 fn serves_waiting(found: &Findings, number: u64) -> bool
     ensures { (all : List Entry) → findings.IsFound all found.now → result ≡ needed.serves_waiting (reverse all) number (reverse all) }
 {
-    has(found.awaited.as_slice(), number)
+    has(found.walk.notes.awaited.as_slice(), number)
 }
 
 fn is_of_clients(whole: Whole<'_>, found: &Findings, place: usize, entry: &Entry) -> bool
@@ -112,7 +113,7 @@ fn is_of_clients(whole: Whole<'_>, found: &Findings, place: usize, entry: &Entry
 fn is_last_online(found: &Findings, entry: &Entry) -> bool
     ensures { (all : List Entry) → findings.IsFound all found.now → result ≡ needed.is_last_online (reverse all) entry.now }
 {
-    is_online(&entry.event) && is_number(entry.number, found.online)
+    is_online(&entry.event) && is_number(entry.number, found.walk.notes.online)
 }
 
 fn is_of_servers(whole: Whole<'_>, found: &Findings, place: usize, entry: &Entry) -> bool
@@ -122,9 +123,9 @@ fn is_of_servers(whole: Whole<'_>, found: &Findings, place: usize, entry: &Entry
     requires at { entry.now ≡ slice_index_or whole.entries.now place entry.now }
     ensures { result ≡ looks.is_of_servers (held.past_of whole.entry) (reverse (take place whole.entry.entries.now)) entry.now }
 {
-    is_fall_needed(&found.falls, entry)
+    is_fall_needed(&found.walk.outline.falls, entry)
         || is_last_online(found, entry)
-        || is_number(entry.number, found.outage)
+        || is_number(entry.number, found.walk.notes.outage)
         || is_of_clients(whole, found, place, entry)
 }
 
@@ -137,7 +138,7 @@ fn is_looked_at(whole: Whole<'_>, found: &Findings, place: usize, entry: &Entry)
     ensures { result ≡ needed.is_looked_at (held.past_of whole.entry) (reverse (take place whole.entry.entries.now)) entry.now }
 {
     let all = whole.entries;
-    is_newest_at(all, found.newest.as_slice(), place, entry)
+    is_newest_at(all, found.walk.outline.newest.as_slice(), place, entry)
         || is_void_needed(all, found, place, entry)
         || is_open(whole, entry.number)
         || serves_open(whole, entry)

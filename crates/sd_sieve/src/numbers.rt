@@ -13,7 +13,7 @@ pub type Numbers = IndexSet<u64>;
 pub fn has(numbers: &Numbers, number: u64) -> bool
     ensures { result ≡ is_among number numbers.now.keys }
 {
-    numbers.contains(&number)
+    !numbers.is_empty() && numbers.contains(&number)
 }
 
 /// Puts a number into a set, where there is one.

@@ -22,7 +22,7 @@ pub struct Outline {
     pub falls: Falls,
 }
 
-fn nothing(alloc: Global) -> Outline
+pub(crate) fn nothing(alloc: Global) -> Outline
     ensures { (all : List Entry) → IsOutlineOf all [] result }
 {
     Outline {
@@ -33,7 +33,7 @@ fn nothing(alloc: Global) -> Outline
 }
 
 /// Notes what an entry says; `before` are the entries before it.
-fn note(
+pub(crate) fn note(
     outline: &mut Outline,
     whole: Whole<'_>,
     before: &[Entry],

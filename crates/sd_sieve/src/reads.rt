@@ -54,7 +54,6 @@ fn only_if(test: bool, number: Option<u64>) -> Option<u64>
 }
 
 /// The entries that are looked at for their own sake, and what is read with them.
-#[derive(Drop)]
 pub struct Looked {
     /// Of each entry, the oldest first, whether it is looked at.
     pub marks: Vec<bool>,
@@ -62,6 +61,16 @@ pub struct Looked {
     pub leads: Numbers,
     /// The requests of the answers among them that are read with these.
     pub answers: Numbers,
+}
+
+impl Drop for Looked {
+    fn drop(self) {
+        let Looked {
+            marks: _,
+            leads: _,
+            answers: _,
+        } = self;
+    }
 }
 
 pub(crate) fn none_looked(alloc: Global) -> Looked

@@ -4,11 +4,13 @@ ghost use Rattle.sd_rules.specs.declared.replies.Entry.{Entry};
 ghost use Rattle.sd_rules.specs.Needed as needed;
 ghost use Rattle.sd_index.specs.Entries.{falls, numbers_fall};
 ghost use Rattle.sd_index.specs.Table.{Indexes, Remakes};
+ghost use Rattle.sd_sieve.specs.Findings as findings;
 ghost use Rattle.sd_sieve.specs.Marks.{MarkNeeded};
 ghost use Rattle.sd_sieve.specs.Plans.{IsPlanOf};
 ghost use Rattle.sd_sieve.specs.Readings.{AreLooked};
+ghost use Rattle.sd_sieve.specs.Whole as held;
 
-use crate::findings::find;
+use crate::findings::{Findings, find};
 use crate::looked::looked_of;
 use crate::reads::{Looked, is_needed_by};
 use crate::whole::Whole;
@@ -58,6 +60,21 @@ fn planned(
     Ok(Plan { marks, remade })
 }
 
+/// The plan by what was found of a journal.
+fn planned_by(
+    alloc: Global,
+    hasher: Primed,
+    whole: Whole<'_>,
+    found: &Findings,
+) -> Result<Plan, Memory>
+    requires index { held.IsIndexed whole }
+    requires found { findings.IsFound whole.entries.now found.now }
+    ensures { IfOk result (IsPlanOf whole.entry.entries.now) }
+{
+    let looked = looked_of(alloc, whole, found)?;
+    planned(alloc, hasher, whole.entries, &looked)
+}
+
 /// Plans a forget of a journal whose index this is. It goes over the entries a few times, and never over all of them for each.
 pub fn plan_of(
     alloc: Global,
@@ -70,8 +87,7 @@ pub fn plan_of(
 {
     let whole = Whole { entries, index };
     let found = find(alloc, whole)?;
-    let looked = looked_of(alloc, whole, &found)?;
-    planned(alloc, hasher, entries, &looked)
+    planned_by(alloc, hasher, whole, &found)
 }
 
 /// What stands in the place of an entry that was moved away.

@@ -20,11 +20,20 @@ use std::alloc::Global;
 pub type Names = IndexMap<Text, u64>;
 
 /// What is found of users: the last online login of each, the entry of each one's hash, the last entry that accepted each.
-#[derive(Drop)]
 pub struct Users {
     pub logins: Names,
     pub hashes: Names,
     pub accepts: Names,
+}
+
+impl Drop for Users {
+    fn drop(self) {
+        let Users {
+            logins: _,
+            hashes: _,
+            accepts: _,
+        } = self;
+    }
 }
 
 /// The number that is kept under a name.

@@ -21,7 +21,7 @@ fn has_below(number: u64, numbers: &[u64]) -> bool
 fn is_after_asking(found: &Findings, number: u64) -> bool
     ensures { (all : List Entry) → findings.IsFound all found.now → result ≡ needed.is_after_asking (reverse all) number (reverse all) }
 {
-    has_below(number, found.askings.as_slice())
+    has_below(number, found.walk.notes.askings.as_slice())
 }
 
 fn is_called_for(last: bool, covers: bool, after_asking: bool) -> bool
@@ -46,7 +46,7 @@ fn is_named_needed(
     requires void { entry.now.event ≡ Event.Void what.now }
     ensures { result ≡ needed.is_void_needed (reverse all.now) (reverse (take place all.now)) entry.now (Event.Void what.now) }
 {
-    let last = is_number(entry.number, number_for(&found.lasts, what));
+    let last = is_number(entry.number, number_for(&found.walk.notes.lasts, what));
     let covers = is_before(number_for(&found.firsts, what), entry.number);
     is_called_for(last, covers, is_after_asking(found, entry.number))
 }

@@ -1,0 +1,4 @@
+use Rattle.sd_sieve.proofs.walk.begin.Goals as goal
+
+pub returns : goal.returns
+returns c = λ all. record { outline = c.nothing.ensures all; notes = c.no_notes.ensures all }
