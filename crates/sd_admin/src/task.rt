@@ -7,7 +7,7 @@ use sd_base::{Copied, Memory};
 use sd_rules::{Bound, Event, Fetched, Given, Need, Said, Task};
 
 /// An administrator's request, as far as it has come.
-#[derive(Debug, Drop)]
+#[derive(Drop)]
 pub enum AdminTask {
     /// This event is to be made.
     Stepping(Event),

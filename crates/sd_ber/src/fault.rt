@@ -1,7 +1,7 @@
 //! Why bytes hold no element.
 
 /// What is wrong with an element; the number is the place of its tag.
-#[derive(Clone, Copy, Debug, PartialEq, Eq)]
+#[derive(Clone, Copy, PartialEq, Eq)]
 pub enum BerFault {
     /// The tag has more than one octet.
     BadTag(u64),

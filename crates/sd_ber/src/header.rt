@@ -6,7 +6,7 @@ ghost use Rattle.sd_ber.specs.Reading.{length_at, header_at};
 use crate::fault::BerFault;
 
 /// The front of an element.
-#[derive(Clone, Copy, Debug, PartialEq, Eq)]
+#[derive(Clone, Copy, PartialEq, Eq)]
 pub struct Header {
     pub tag: u8,
     /// How many bytes tag and length take.

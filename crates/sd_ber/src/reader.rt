@@ -9,7 +9,7 @@ use crate::header::read_header;
 use std::marker::Model;
 
 /// An element: its tag, the place of the tag, and the contents.
-#[derive(Clone, Copy, Debug)]
+#[derive(Clone, Copy)]
 pub struct Tlv<'a> {
     pub tag: u8,
     pub at: u64,

@@ -15,10 +15,18 @@ use std::alloc::Global;
 use std::marker::Model;
 
 /// The newest answers by keys; contracts see them as keys with their answers, of which only the look-ups count.
-#[derive(Drop)]
 pub struct Cache {
     answers: Answers,
     alloc: Global,
+}
+
+impl Drop for Cache {
+    fn drop(self) {
+        let Cache {
+            answers: _,
+            alloc: _,
+        } = self;
+    }
 }
 
 impl Model for Cache {

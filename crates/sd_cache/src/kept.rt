@@ -6,7 +6,7 @@ use sd_base::{Copied, Memory, Text};
 use sd_rules::{Answered, Key, Record};
 
 /// Whom or what an answer found.
-#[derive(Debug, Drop, PartialEq, Eq)]
+#[derive(Drop, PartialEq, Eq)]
 pub enum Found {
     /// Nothing: the key is absent.
     Absent,
@@ -31,13 +31,25 @@ impl Copied for Found {
 
 /// The newest answer of a key: the number and the moment of its entry, the key that it answered, whom it found, and whether a
 /// kept row marks it as invalidated.
-#[derive(Debug, Drop, PartialEq, Eq)]
+#[derive(PartialEq, Eq)]
 pub struct Newest {
     pub number: u64,
     pub moment: u64,
     pub own: Key,
     pub found: Found,
     pub marked: bool,
+}
+
+impl Drop for Newest {
+    fn drop(self) {
+        let Newest {
+            number: _,
+            moment: _,
+            own: _,
+            found: _,
+            marked: _,
+        } = self;
+    }
 }
 
 impl Copied for Newest {

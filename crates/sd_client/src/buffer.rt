@@ -34,7 +34,7 @@ impl Model for Buffer {
 }
 
 /// Whether bytes came.
-#[derive(Clone, Copy, Debug, PartialEq, Eq)]
+#[derive(Clone, Copy, PartialEq, Eq)]
 pub enum Received {
     Bytes,
     Nothing,

@@ -29,7 +29,6 @@ pub enum Reply {
 }
 
 /// What a client knows of its link.
-#[derive(Drop)]
 pub struct State {
     pub buffer: Buffer,
     /// Where reading goes on.
@@ -37,6 +36,17 @@ pub struct State {
     /// The id of the next request.
     pub next: u32,
     pub failed: Option<Why>,
+}
+
+impl Drop for State {
+    fn drop(self) {
+        let State {
+            buffer: _,
+            at: _,
+            next: _,
+            failed: _,
+        } = self;
+    }
 }
 
 /// Reads, and receives until the bytes decide; the place then is that behind the reply.

@@ -37,10 +37,18 @@ impl User {
 }
 
 /// What all sessions share.
-#[derive(Drop)]
 pub struct Company {
     pub directory: Directory,
     pub hold: Hold,
+}
+
+impl Drop for Company {
+    fn drop(self) {
+        let Company {
+            directory: _,
+            hold: _,
+        } = self;
+    }
 }
 
 impl Company {

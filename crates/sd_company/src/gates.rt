@@ -7,11 +7,20 @@ use std::thread::yield_now;
 const LOOKS: u64 = 1_000_000_000;
 
 /// What holds sessions before the directory.
-#[derive(Drop)]
 pub struct Hold {
     held: AtomicU64,
     is_open: AtomicBool,
     gave_up: AtomicBool,
+}
+
+impl Drop for Hold {
+    fn drop(self) {
+        let Hold {
+            held: _,
+            is_open: _,
+            gave_up: _,
+        } = self;
+    }
 }
 
 impl Hold {

@@ -13,11 +13,16 @@ use std::alloc::Global;
 use std::sync::Wait;
 
 /// What a visit came to.
-#[derive(Drop)]
 pub struct Visit {
     /// The bytes written.
     pub written: Vec<u8>,
     pub end: SessionEnd,
+}
+
+impl Drop for Visit {
+    fn drop(self) {
+        let Visit { written: _, end: _ } = self;
+    }
 }
 
 /// The frame of a question for a user of at most 252 bytes.

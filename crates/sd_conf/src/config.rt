@@ -16,7 +16,6 @@ use sd_rules::{Settings, SimpleLists};
 use std::alloc::Global;
 
 /// What the daemon runs by.
-#[derive(Debug, Drop)]
 pub struct Config {
     pub settings: Settings,
     /// The name of the one domain.
@@ -31,6 +30,20 @@ pub struct Config {
     pub pwfield: Text,
     /// How many lines have a key that is no option's, in the sections that are read.
     pub unknown: u32,
+}
+
+impl Drop for Config {
+    fn drop(self) {
+        let Config {
+            settings: _,
+            domain: _,
+            base: _,
+            servers: _,
+            level: _,
+            pwfield: _,
+            unknown: _,
+        } = self;
+    }
 }
 
 fn simple_lists(alloc: Global, choices: &Choices<'_>) -> Result<SimpleLists, Memory>

@@ -16,7 +16,7 @@ pub use config::{Config, read_conf};
 pub use servers::{Server, ServerList};
 
 /// Why a text was not read as a configuration.
-#[derive(Debug, Drop)]
+#[derive(Drop)]
 pub enum ConfFault {
     /// The line of this number has no form.
     BadLine(u32),

@@ -11,7 +11,7 @@ use sd_pieces::cut;
 use std::alloc::Global;
 
 /// What a line says.
-#[derive(Clone, Copy, Debug)]
+#[derive(Clone, Copy)]
 pub enum Line<'a> {
     Blank,
     Section(&'a [u8]),
@@ -20,7 +20,7 @@ pub enum Line<'a> {
 }
 
 /// A key's line, with its section.
-#[derive(Clone, Copy, Debug)]
+#[derive(Clone, Copy)]
 pub struct Entry<'a> {
     pub section: &'a [u8],
     pub key: &'a [u8],

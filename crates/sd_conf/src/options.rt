@@ -7,7 +7,7 @@ ghost use Rattle.sd_conf.specs.Options as options;
 use crate::lines::Entry;
 
 /// The sections that are read: `sssd`, `nss`, `pam`, and the one of the domain.
-#[derive(Clone, Copy, Debug, PartialEq, Eq)]
+#[derive(Clone, Copy, PartialEq, Eq)]
 pub enum Part {
     Sssd,
     Nss,
@@ -16,7 +16,7 @@ pub enum Part {
 }
 
 /// What a value may be.
-#[derive(Clone, Copy, Debug, PartialEq, Eq)]
+#[derive(Clone, Copy, PartialEq, Eq)]
 pub enum Rule {
     /// Any text.
     Any,
@@ -41,7 +41,7 @@ pub enum Rule {
 }
 
 /// An option, by its key in sssd.conf(5).
-#[derive(Clone, Copy, Debug, PartialEq, Eq)]
+#[derive(Clone, Copy, PartialEq, Eq)]
 pub enum ConfOption {
     Domains,
     Services,
@@ -118,7 +118,7 @@ pub const OPTIONS: [ConfOption; 34] = [
 ];
 
 /// A row of the table: in which section the option stands, its key, what its value may be.
-#[derive(Clone, Copy, Debug)]
+#[derive(Clone, Copy)]
 pub struct Row<'a> {
     pub part: Part,
     pub key: &'a [u8],

@@ -14,10 +14,16 @@ use sd_pieces::{cut, read_number};
 use std::alloc::Global;
 
 /// A server of the directory.
-#[derive(Debug, Drop, PartialEq, Eq)]
+#[derive(PartialEq, Eq)]
 pub struct Server {
     pub host: Text,
     pub port: u16,
+}
+
+impl Drop for Server {
+    fn drop(self) {
+        let Server { host: _, port: _ } = self;
+    }
 }
 
 /// Servers, in the order in which they are tried.

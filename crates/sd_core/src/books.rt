@@ -17,8 +17,9 @@ ghost use Rattle.sd_core.specs.Noted as noted;
 use crate::notes::{keep, make_room, note_of};
 use sd_base::{Memory, Text};
 use sd_creds::Marks;
-use sd_journal::logins::{Login, cached_login, usable_hash, verdict_of, verdict_of_try};
+use sd_journal::logins::{cached_login, usable_hash, verdict_of, verdict_of_try};
 use sd_past::Past;
+use sd_rules::limits::Login;
 use sd_rules::{Entry, Event, Reply, Settings, Verdict};
 use std::alloc::Global;
 
@@ -153,9 +154,14 @@ impl LoginBook for NoBook {
 }
 
 /// A mark for each user who logged in or guessed, so that a login costs no walk.
-#[derive(Drop)]
 pub struct UserBook {
     marks: Marks,
+}
+
+impl Drop for UserBook {
+    fn drop(self) {
+        let UserBook { marks: _ } = self;
+    }
 }
 
 fn reply_by_hash(used: bool, hash: Option<u64>) -> Reply

@@ -67,7 +67,7 @@ pub type PlainCore = EntryCore<ListedPast, Unkept, NoBook>;
 pub type IndexedCore = EntryCore<IndexedPast, Compiled, UserBook>;
 
 /// Why a core is not opened.
-#[derive(Clone, Copy, Debug, PartialEq, Eq)]
+#[derive(Clone, Copy, PartialEq, Eq)]
 pub enum OpenFault {
     /// The first row that is against the rules for kept rows, by its place, counted from 0.
     BadRows(u32),
@@ -84,7 +84,7 @@ impl From<Memory> for OpenFault {
 }
 
 /// What a ticket waits for.
-#[derive(Clone, Copy, Debug, PartialEq, Eq)]
+#[derive(Clone, Copy, PartialEq, Eq)]
 pub enum Look {
     /// This request, which is open.
     Running(u64),

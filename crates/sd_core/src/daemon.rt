@@ -20,9 +20,14 @@ use std::alloc::Global;
 use std::marker::Model;
 
 /// The core of the daemon: the one journal and the replies to events.
-#[derive(Drop)]
 pub struct Core {
     indexed: IndexedCore,
+}
+
+impl Drop for Core {
+    fn drop(self) {
+        let Core { indexed: _ } = self;
+    }
 }
 
 impl Model for Core {

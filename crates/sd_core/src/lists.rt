@@ -18,7 +18,7 @@ use sd_rules::{Event, Given, Refused, StepFault};
 use std::alloc::Global;
 
 /// An event and the moment handed in with it, in seconds.
-#[derive(Debug, Drop, PartialEq, Eq)]
+#[derive(Drop)]
 pub struct Step {
     pub now: u64,
     pub event: Event,
@@ -62,7 +62,7 @@ impl Answers for Core {
 }
 
 /// Why a list of steps ended before its end.
-#[derive(Debug, Drop, PartialEq, Eq)]
+#[derive(Drop)]
 pub enum ListFault {
     /// The core refused a step: what each step before it gave, and why, with the step's event.
     Refused(GivenList, Refused),

@@ -14,7 +14,7 @@ use sd_journal::requests::is_try_accepted;
 use sd_rules::{Entry, Event, Reply, Row, Verdict};
 
 /// What an entry tells of a user's logins.
-#[derive(Clone, Copy, Debug, PartialEq, Eq)]
+#[derive(Clone, Copy, PartialEq, Eq)]
 pub enum LoginWord {
     /// A server accepted the password; whether the login left its hash.
     Login(bool),
@@ -29,7 +29,7 @@ pub enum LoginWord {
 }
 
 /// The word of an entry, with the entry's number and moment.
-#[derive(Clone, Copy, Debug)]
+#[derive(Clone, Copy)]
 pub struct Note {
     pub number: u64,
     pub moment: u64,

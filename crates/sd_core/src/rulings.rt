@@ -92,16 +92,26 @@ impl Ruling for Unkept {
 }
 
 /// The rules of an answer, compiled, with the answer's number.
-#[derive(Drop)]
 pub struct Numbered {
     number: u64,
     sets: Sets,
 }
 
+impl Drop for Numbered {
+    fn drop(self) {
+        let Numbered { number: _, sets: _ } = self;
+    }
+}
+
 /// The rules of the newest answer, compiled once; none where it holds none.
-#[derive(Drop)]
 pub struct Compiled {
     rules: Option<Numbered>,
+}
+
+impl Drop for Compiled {
+    fn drop(self) {
+        let Compiled { rules: _ } = self;
+    }
 }
 
 fn compile(alloc: Global, number: u64, book: &RuleBook) -> Result<Numbered, Memory>

@@ -7,7 +7,7 @@ use std::fmt;
 use std::fmt::Display;
 
 /// A line of the daemon's log. None has a password, a hash, or a word of a client.
-#[derive(Clone, Copy, Debug, PartialEq, Eq)]
+#[derive(Clone, Copy, PartialEq, Eq)]
 pub enum Notice {
     /// Clients are let in from now on. So many options of the configuration were passed over.
     Serving(u32),

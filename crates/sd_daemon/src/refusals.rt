@@ -9,7 +9,7 @@ use sd_wire::fields::{push_bytes, push_numbered};
 use std::alloc::Global;
 
 /// Why serving did not begin.
-#[derive(Debug, Drop)]
+#[derive(Drop)]
 pub enum Stop {
     /// The configuration, or the seed, could not be read.
     ReadFault,

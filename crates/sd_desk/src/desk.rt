@@ -15,13 +15,22 @@ use std::alloc::Global;
 use std::sync::Wait;
 
 /// One core under a turn, with what all its sessions read.
-#[derive(Drop)]
 pub struct Desk {
     turn: Turn<SharedCore>,
     config: Config,
     salts: Salts,
     ghost settings: { (seats.opening turn).core.value.settings ≡ config.settings },
     ghost pwfield: { length config.pwfield ≤ 255 },
+}
+
+impl Drop for Desk {
+    fn drop(self) {
+        let Desk {
+            turn: _,
+            config: _,
+            salts: _,
+        } = self;
+    }
 }
 
 impl Desk {

@@ -14,7 +14,7 @@ pub enum DeskFault {
 }
 
 /// A step that was not made hands its event back.
-#[derive(Debug, Drop, PartialEq, Eq)]
+#[derive(Drop)]
 pub struct DeskRefused {
     pub fault: DeskFault,
     pub event: Event,

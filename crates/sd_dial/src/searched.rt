@@ -3,7 +3,7 @@ use sd_base::Why;
 use sd_ldap::DirEntries;
 
 /// What a search of a directory came to.
-#[derive(Drop, Debug)]
+#[derive(Drop)]
 pub enum Searched {
     /// The entries received, in their order, where the result code was 0.
     Entries(DirEntries),

@@ -6,7 +6,7 @@ ghost use Rattle.sd_dn.specs.Comparing as comparing;
 use crate::{Dn, Pair, Rdn};
 
 /// The one pair of an entry's own RDN.
-#[derive(Clone, Copy, Debug)]
+#[derive(Clone, Copy)]
 pub struct Leaf<'a> {
     pub name: &'a [u8],
     pub value: &'a [u8],

@@ -15,10 +15,15 @@ pub use read::{is_dn, read_dn};
 pub use texts::{same_dn_text, spelled, spells_dn};
 
 /// An attribute's type and its value, of which nothing is escaped.
-#[derive(Drop, Debug)]
 pub struct Pair {
     pub name: Text,
     pub value: Text,
+}
+
+impl Drop for Pair {
+    fn drop(self) {
+        let Pair { name: _, value: _ } = self;
+    }
 }
 
 impl Copied for Pair {
@@ -37,7 +42,7 @@ pub type Rdn = Items<Pair>;
 pub type Dn = Items<Rdn>;
 
 /// Why a text was not read.
-#[derive(Clone, Copy, Debug, PartialEq, Eq)]
+#[derive(Clone, Copy, PartialEq, Eq)]
 pub enum DnFault {
     /// The place of the first byte with which no DN goes on, or the length where the text ends too soon.
     BadDn(u64),

@@ -12,7 +12,7 @@ use std::alloc::Global;
 use std::mem;
 
 /// What the byte before left open.
-#[derive(Clone, Copy, Debug, PartialEq, Eq)]
+#[derive(Clone, Copy, PartialEq, Eq)]
 enum Stage {
     Start,
     BeforeType,

@@ -17,7 +17,7 @@ use sd_base::Memory;
 use std::alloc::Global;
 
 /// What comes next in a value's text.
-#[derive(Clone, Copy, Debug)]
+#[derive(Clone, Copy)]
 enum Symbol {
     /// A byte of the value.
     Byte(u8),
@@ -31,7 +31,7 @@ enum Symbol {
 }
 
 /// How the next symbols of two values meet.
-#[derive(Clone, Copy, Debug)]
+#[derive(Clone, Copy)]
 enum Meeting {
     Alike,
     Separated,
@@ -40,7 +40,7 @@ enum Meeting {
 }
 
 /// What was found of two values.
-#[derive(Clone, Copy, Debug)]
+#[derive(Clone, Copy)]
 enum Verdict {
     /// They are equal, and a pair follows in both texts.
     Further,

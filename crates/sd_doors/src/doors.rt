@@ -6,7 +6,7 @@ ghost use Rattle.sd_doors.specs.Came.{gave_after, ended_after};
 use sd_base::{Sink, Source};
 
 /// No connection could be accepted.
-#[derive(Clone, Copy, Debug, PartialEq, Eq)]
+#[derive(Clone, Copy, PartialEq, Eq)]
 pub struct DoorFailed;
 
 /// Where connections come from: what a client sends, and where what it is sent goes.

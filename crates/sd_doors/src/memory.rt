@@ -15,7 +15,6 @@ pub struct Connection {
 }
 
 /// Doors through which these connections come, in their order, and then none.
-#[derive(Drop)]
 pub struct MemoryDoors {
     connections: VecDeque<Connection>,
     calls: u64,
@@ -23,6 +22,19 @@ pub struct MemoryDoors {
     faults: u64,
     gave: bool,
     ended: bool,
+}
+
+impl Drop for MemoryDoors {
+    fn drop(self) {
+        let MemoryDoors {
+            connections: _,
+            calls: _,
+            failing: _,
+            faults: _,
+            gave: _,
+            ended: _,
+        } = self;
+    }
 }
 
 impl Connection {

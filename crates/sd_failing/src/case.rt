@@ -18,7 +18,6 @@ cache_credentials = TRUE
 const MOST: usize = 65536;
 
 /// What the sessions of a case find.
-#[derive(Drop)]
 pub struct Case {
     /// Whether a session has a seat at a desk, and not a core of its own.
     pub is_at_desk: bool,
@@ -30,6 +29,21 @@ pub struct Case {
     pub most_put: usize,
     pub most_received: usize,
     pub runs: Vec<Trouble>,
+}
+
+impl Drop for Case {
+    fn drop(self) {
+        let Case {
+            is_at_desk: _,
+            conf: _,
+            sent: _,
+            moments: _,
+            most_taken: _,
+            most_put: _,
+            most_received: _,
+            runs: _,
+        } = self;
+    }
 }
 
 fn call_of(word: &[u8]) -> Call {

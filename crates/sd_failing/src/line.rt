@@ -18,7 +18,6 @@ pub struct Calls {
 }
 
 /// A link to a directory. It tells no content.
-#[derive(Drop)]
 pub struct NotedLine<'d> {
     pub alloc: Global,
     pub directory: &'d Directory,
@@ -31,6 +30,22 @@ pub struct NotedLine<'d> {
     pub at: usize,
     pub calls: Calls,
     pub faults: u64,
+}
+
+impl Drop for NotedLine<'_> {
+    fn drop(self) {
+        let NotedLine {
+            alloc: _,
+            directory: _,
+            trouble: _,
+            most: _,
+            asked: _,
+            coming: _,
+            at: _,
+            calls: _,
+            faults: _,
+        } = self;
+    }
 }
 
 fn word_of(operation: &Operation) -> &'static [u8] {

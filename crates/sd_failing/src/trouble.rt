@@ -9,7 +9,7 @@ const OTHER: &[u8] =
 const OTHER_LENGTH: usize = 4096;
 
 /// The calls of which one may fail.
-#[derive(Clone, Copy, Debug, PartialEq, Eq)]
+#[derive(Clone, Copy, PartialEq, Eq)]
 pub enum Call {
     Take,
     Put,
@@ -19,7 +19,7 @@ pub enum Call {
 }
 
 /// What goes wrong in a run. Calls are counted from 1.
-#[derive(Clone, Copy, Debug, PartialEq, Eq)]
+#[derive(Clone, Copy, PartialEq, Eq)]
 pub enum Trouble {
     Nothing,
     /// This call of its kind fails.

@@ -22,7 +22,6 @@ use std::alloc::Global;
 use std::sync::Wait;
 
 /// What a session came to.
-#[derive(Drop)]
 pub struct Visit {
     pub written: Vec<u8>,
     pub asked: Vec<u8>,
@@ -30,6 +29,18 @@ pub struct Visit {
     pub end: SessionEnd,
     /// The lines of the journal.
     pub journal: Vec<u8>,
+}
+
+impl Drop for Visit {
+    fn drop(self) {
+        let Visit {
+            written: _,
+            asked: _,
+            faults: _,
+            end: _,
+            journal: _,
+        } = self;
+    }
 }
 
 /// What a session is served with.

@@ -6,7 +6,7 @@ ghost use Rattle.sd_failover.specs.Falls as told;
 pub const SECONDS_DOWN: u64 = 30;
 
 /// A server that did not answer.
-#[derive(Clone, Copy, Debug, PartialEq, Eq)]
+#[derive(Clone, Copy, PartialEq, Eq)]
 pub struct Fall {
     /// The request or login attempt that asked it, until that is closed.
     pub request: Option<u64>,

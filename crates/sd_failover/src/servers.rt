@@ -12,10 +12,15 @@ use std::marker::Model;
 /// A fall is kept while it can count: until a later one of the same server stands for it, or an online came after it
 /// and its request is closed. So, while moments do not go back, a server has at most one fall for each request that was
 /// not closed when it last fell.
-#[derive(Drop, Debug)]
 pub struct Servers {
     count: u32,
     falls: Vec<Fall>,
+}
+
+impl Drop for Servers {
+    fn drop(self) {
+        let Servers { count: _, falls: _ } = self;
+    }
 }
 
 impl Model for Servers {

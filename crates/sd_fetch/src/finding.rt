@@ -13,7 +13,7 @@ use sd_ldap::{DirEntries, SearchRequest};
 use std::alloc::Global;
 
 /// What ends a lookup early.
-#[derive(Drop, Debug)]
+#[derive(Drop)]
 pub enum Early {
     /// The result code received, none of 0, 32, 51 and 52 (RFC 4511 appendix A).
     Refused(u32),

@@ -129,7 +129,7 @@ pub fn groups_found(
         Ok(found) => found_record(
             alloc,
             Record::Groups(Groups {
-                user: found.name,
+                user: found.into_name(),
                 groups,
             }),
         ),

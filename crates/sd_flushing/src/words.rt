@@ -2,7 +2,7 @@
 use sd_pieces::{cut, read_number};
 
 /// What to do.
-#[derive(Clone, Copy, Debug, PartialEq, Eq)]
+#[derive(Clone, Copy, PartialEq, Eq)]
 pub enum Order {
     /// Flush so many rows of a round: the round, the count.
     Flush(u32, u32),

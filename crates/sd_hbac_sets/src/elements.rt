@@ -9,11 +9,20 @@ use sd_rules::{Element, Service};
 use std::alloc::Global;
 
 /// The users or the hosts of a rule: all, or these by their names and by their groups.
-#[derive(Drop)]
 pub struct Members {
     all: bool,
     names: Names,
     groups: Names,
+}
+
+impl Drop for Members {
+    fn drop(self) {
+        let Members {
+            all: _,
+            names: _,
+            groups: _,
+        } = self;
+    }
 }
 
 /// The services of a rule: all, or these by their names, those of its groups among them.

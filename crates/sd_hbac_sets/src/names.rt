@@ -11,9 +11,14 @@ use std::cmp::Ordering;
 use std::marker::Model;
 
 /// Names in lower case, in byte order; contracts see the list of them.
-#[derive(Drop)]
 pub struct Names {
     names: Vec<Vec<u8>>,
+}
+
+impl Drop for Names {
+    fn drop(self) {
+        let Names { names: _ } = self;
+    }
 }
 
 impl Model for Names {

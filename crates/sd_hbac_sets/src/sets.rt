@@ -13,7 +13,6 @@ use std::alloc::Global;
 use std::marker::Model;
 
 /// An enabled rule: its place in the book, counted from 0, its name, and whom it lets in.
-#[derive(Drop)]
 pub struct Set {
     place: u32,
     name: Text,
@@ -22,11 +21,28 @@ pub struct Set {
     services: Served,
 }
 
+impl Drop for Set {
+    fn drop(self) {
+        let Set {
+            place: _,
+            name: _,
+            users: _,
+            hosts: _,
+            services: _,
+        } = self;
+    }
+}
+
 /// The enabled rules of a book, compiled; contracts see them in the order of the book.
-#[derive(Drop)]
 pub struct Sets {
     /// The last rule of the book first.
     sets: Vec<Set>,
+}
+
+impl Drop for Sets {
+    fn drop(self) {
+        let Sets { sets: _ } = self;
+    }
 }
 
 impl Model for Sets {

@@ -39,7 +39,7 @@ pub const TOO_LONG: Status = 8;
 pub const LIMIT: usize = 16777216;
 
 /// A status, and what is written before it.
-#[derive(Debug, Drop)]
+#[derive(Drop)]
 pub struct Ending {
     pub status: Status,
     pub output: Bytes,

@@ -12,7 +12,7 @@ use sd_pieces::{cut, value_of};
 use std::alloc::Global;
 
 /// What a line asks for.
-#[derive(Debug, Drop)]
+#[derive(Drop)]
 pub enum Line {
     /// Nothing: the line is empty or a comment.
     Skipped,

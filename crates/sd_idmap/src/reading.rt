@@ -10,7 +10,7 @@ use sd_base::Memory;
 use std::alloc::Global;
 
 /// Why a text was not read.
-#[derive(Clone, Copy, Debug, PartialEq, Eq)]
+#[derive(Clone, Copy, PartialEq, Eq)]
 pub enum SidFault {
     /// The place of the first byte with which no SID goes on, or the length where the text ends too soon.
     BadSid(u64),
@@ -29,7 +29,7 @@ impl From<Memory> for SidFault {
 }
 
 /// Where reading stands.
-#[derive(Clone, Copy, Debug, PartialEq, Eq)]
+#[derive(Clone, Copy, PartialEq, Eq)]
 pub enum Stage {
     /// So many bytes of `S-1-` were read.
     Lead(u8),
@@ -40,7 +40,7 @@ pub enum Stage {
 }
 
 /// What the next byte does.
-#[derive(Clone, Copy, Debug, PartialEq, Eq)]
+#[derive(Clone, Copy, PartialEq, Eq)]
 pub enum Next {
     /// Reading stands there now.
     Goes(Stage),

@@ -13,11 +13,20 @@ use sd_base::{Bytes, Memory};
 use std::alloc::Global;
 
 /// What was done so far: the slices of the domains, how many lines had an answer, and what was printed.
-#[derive(Drop)]
 pub struct Run {
     pub slices: Slices,
     pub count: u64,
     pub printed: Vec<u8>,
+}
+
+impl Drop for Run {
+    fn drop(self) {
+        let Run {
+            slices: _,
+            count: _,
+            printed: _,
+        } = self;
+    }
 }
 
 /// A word and a number, or another word where there is none.

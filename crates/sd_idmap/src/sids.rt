@@ -13,9 +13,14 @@ use std::hash::{Hash, Hasher};
 use std::marker::Model;
 
 /// The numbers of a domain's SID: its authority, and the parts behind that. Two are equal number for number.
-#[derive(Drop, Debug)]
 pub struct Domain {
     numbers: Vec<u64>,
+}
+
+impl Drop for Domain {
+    fn drop(self) {
+        let Domain { numbers: _ } = self;
+    }
 }
 
 impl Model for Domain {
@@ -84,12 +89,17 @@ impl Hash for Domain {
 }
 
 /// A SID (Windows' security identifier, revision 1): what it is in, and its last part, which numbers it there.
-#[derive(Drop, Debug)]
 pub struct Sid {
     /// The numbers in front of the last part.
     pub domain: Domain,
     /// The last part, which Windows calls the relative identifier.
     pub rid: u32,
+}
+
+impl Drop for Sid {
+    fn drop(self) {
+        let Sid { domain: _, rid: _ } = self;
+    }
 }
 
 impl Copied for Sid {

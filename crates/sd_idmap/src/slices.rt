@@ -25,7 +25,7 @@ pub const SIZE: u32 = 200_000;
 pub const SEED: u32 = 0xdead_beef;
 
 /// Why a domain was not added.
-#[derive(Clone, Copy, Debug, PartialEq, Eq)]
+#[derive(Clone, Copy, PartialEq, Eq)]
 pub enum SliceFault {
     /// Every slice has a domain.
     Full,
@@ -44,10 +44,18 @@ impl From<Memory> for SliceFault {
 }
 
 /// The domains that have slices, which contracts see as the list of the domains in the order in which they were added.
-#[derive(Drop)]
 pub struct Slices {
     by_domain: IndexMap<Domain, u32>,
     by_slice: IndexMap<u32, Domain>,
+}
+
+impl Drop for Slices {
+    fn drop(self) {
+        let Slices {
+            by_domain: _,
+            by_slice: _,
+        } = self;
+    }
 }
 
 impl Model for Slices {

@@ -28,7 +28,6 @@ use std::alloc::Global;
 use std::marker::Model;
 
 /// What is kept beside a journal, which contracts see as a table that says what the journal says.
-#[derive(Drop)]
 pub struct Index {
     cache: Cache,
     voids: Voids,
@@ -37,6 +36,18 @@ pub struct Index {
     places: Vec<Place>,
     /// The entries that tell of servers, the oldest first.
     signals: Vec<Entry>,
+}
+
+impl Drop for Index {
+    fn drop(self) {
+        let Index {
+            cache: _,
+            voids: _,
+            outage: _,
+            places: _,
+            signals: _,
+        } = self;
+    }
 }
 
 impl Model for Index {

@@ -7,7 +7,7 @@ use sd_journal::past::{is_closed, is_shut, is_within};
 use sd_rules::{Entry, Event, Reply};
 
 /// An outage that nothing has ended: the number and the moment of its entry.
-#[derive(Clone, Copy, Debug, PartialEq, Eq)]
+#[derive(Clone, Copy, PartialEq, Eq)]
 pub struct Outage {
     pub number: u64,
     pub moment: u64,

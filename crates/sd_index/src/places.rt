@@ -9,7 +9,7 @@ use sd_journal::requests::{closes, is_took};
 use sd_rules::{Entry, Event, Key, Reply};
 
 /// A place that is reserved for an entry to come.
-#[derive(Debug, Drop)]
+#[derive(Drop)]
 pub enum Place {
     /// For the answer to an open request: its number and its key.
     Request(u64, Key),

@@ -14,11 +14,19 @@ use std::alloc::Global;
 use std::marker::Model;
 
 /// The last invalidations and the entries that tell of servers, of those entries that were noted.
-#[derive(Drop)]
 pub struct Remade {
     voids: Voids,
     /// The oldest first.
     signals: Vec<Entry>,
+}
+
+impl Drop for Remade {
+    fn drop(self) {
+        let Remade {
+            voids: _,
+            signals: _,
+        } = self;
+    }
 }
 
 impl Model for Remade {
@@ -65,6 +73,7 @@ impl Remade {
         ensures bounds { result.0 ≡ self.bounds }
         ensures signals { reverse result.1.items ≡ self.signals }
     {
-        (self.voids, self.signals)
+        let Remade { voids, signals } = self;
+        (voids, signals)
     }
 }

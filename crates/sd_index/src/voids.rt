@@ -36,13 +36,24 @@ fn set_bound(names: &mut Names, name: &Text, number: u64) -> Result<(), Memory>
 }
 
 /// The last invalidation of each kind, by its number, which contracts see as these numbers.
-#[derive(Drop)]
 pub struct Voids {
     all: u64,
     users: u64,
     groups: u64,
     user_names: Names,
     group_names: Names,
+}
+
+impl Drop for Voids {
+    fn drop(self) {
+        let Voids {
+            all: _,
+            users: _,
+            groups: _,
+            user_names: _,
+            group_names: _,
+        } = self;
+    }
 }
 
 impl Model for Voids {

@@ -11,7 +11,7 @@ use std::alloc::Global;
 pub const REFUSED: Status = 10;
 
 /// A status, and what is written before it.
-#[derive(Debug, Drop)]
+#[derive(Drop)]
 pub struct Ending {
     pub status: Status,
     pub output: Text,

@@ -17,7 +17,7 @@ const CONF_LIMIT: usize = 1_048_576;
 const LDIF_LIMIT: usize = 67_108_864;
 
 /// Why an input was not taken.
-#[derive(Debug, Drop)]
+#[derive(Drop)]
 pub enum Stop {
     /// It could not be read.
     ReadFault,
@@ -176,10 +176,18 @@ fn read_entries<S: Source>(alloc: Global, ldif: &mut S) -> Result<DirEntries, St
 }
 
 /// A configuration, and the entries of a directory.
-#[derive(Debug, Drop)]
 pub struct Inputs {
     pub config: Config,
     pub entries: DirEntries,
+}
+
+impl Drop for Inputs {
+    fn drop(self) {
+        let Inputs {
+            config: _,
+            entries: _,
+        } = self;
+    }
 }
 
 #[tactic(auto, using(crate::proofs::Told::both_read, crate::proofs::Told::conf_stopped, crate::proofs::Told::ldif_stopped))]

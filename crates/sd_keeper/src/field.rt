@@ -11,7 +11,7 @@ use sd_base::{Copied, Items, Memory, Text};
 use std::alloc::{AllocError, AllocFailed, Global};
 
 /// Why bytes are not read.
-#[derive(Clone, Copy, Debug, PartialEq, Eq)]
+#[derive(Clone, Copy, PartialEq, Eq)]
 pub enum FieldFault {
     /// They have no such form.
     Bad,

@@ -6,7 +6,7 @@ ghost use Rattle.sd_keeper.specs.Keeping as keeping;
 use sd_base::{Blobs, Memory};
 
 /// Why a keeper does not do as asked.
-#[derive(Clone, Copy, Debug, PartialEq, Eq)]
+#[derive(Clone, Copy, PartialEq, Eq)]
 pub enum KeeperFault {
     /// The keeper failed.
     Failed,

@@ -5,13 +5,24 @@ use crate::keeper::{Keeper, KeeperFault};
 use sd_base::{Blobs, Copied, Numbers};
 
 /// Blobs in memory. It tells them.
-#[derive(Drop)]
 pub struct MemoryKeeper {
     blobs: Blobs,
     calls: u64,
     failing: Numbers,
     faults: u64,
     failed: bool,
+}
+
+impl Drop for MemoryKeeper {
+    fn drop(self) {
+        let MemoryKeeper {
+            blobs: _,
+            calls: _,
+            failing: _,
+            faults: _,
+            failed: _,
+        } = self;
+    }
 }
 
 impl MemoryKeeper {

@@ -17,7 +17,7 @@ use sd_rules::{Answered, Hash, Key, Row};
 use std::alloc::Global;
 
 /// The version of a store.
-#[derive(Clone, Copy, Debug, PartialEq, Eq)]
+#[derive(Clone, Copy, PartialEq, Eq)]
 pub enum Version {
     /// It has no rows of online logins.
     First,

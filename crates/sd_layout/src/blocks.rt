@@ -16,14 +16,14 @@ use std::marker::Model;
 
 /// A line of a scenario and its number, counted from 1. A block is one of them; where it is bad, the number is that of the
 /// line in it that is at fault.
-#[derive(Debug, Drop)]
+#[derive(Drop)]
 pub struct Statement {
     pub number: u64,
     pub line: Line,
 }
 
 /// The first of some lines, or their first block, and what comes behind it.
-#[derive(Debug, Drop)]
+#[derive(Drop)]
 pub struct Next<'a> {
     pub statement: Statement,
     /// The number of the first line behind it.
@@ -33,7 +33,7 @@ pub struct Next<'a> {
 }
 
 /// A block that has not ended.
-#[derive(Debug, Drop)]
+#[derive(Drop)]
 pub struct Block {
     first: u64,
     text: Vec<u8>,

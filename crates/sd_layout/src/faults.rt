@@ -16,14 +16,14 @@ use sd_lines::Line;
 use std::alloc::Global;
 
 /// The configuration of a scenario, or the number of the line that is at fault.
-#[derive(Debug, Drop)]
+#[derive(Drop)]
 pub enum ConfigRead {
     Config(Config),
     BadLine(u64),
 }
 
 /// What a line can name: servers of the configuration, and tasks that were made above it.
-#[derive(Clone, Copy, Debug)]
+#[derive(Clone, Copy)]
 pub struct Scope {
     pub servers: u32,
     pub tasks: u64,

@@ -16,7 +16,7 @@ use std::marker::Model;
 
 /// Where a scenario's configuration comes from: its text; for each line of it the line of the scenario; and the line that is at
 /// fault where a refusal names none. Lines are counted from 1.
-#[derive(Debug, Drop)]
+#[derive(Drop)]
 pub struct Origin {
     text: Vec<u8>,
     numbers: Vec<u64>,
@@ -32,7 +32,6 @@ impl Model for Origin {
 }
 
 /// The head of a scenario.
-#[derive(Debug, Drop)]
 pub struct Head<'a> {
     pub origin: Origin,
     /// Whether its block, where it has one, ends.
@@ -41,6 +40,17 @@ pub struct Head<'a> {
     pub number: u64,
     /// The lines behind it.
     pub body: Option<&'a [u8]>,
+}
+
+impl Drop for Head<'_> {
+    fn drop(self) {
+        let Head {
+            origin: _,
+            is_whole: _,
+            number: _,
+            body: _,
+        } = self;
+    }
 }
 
 impl Origin {

@@ -15,7 +15,7 @@ use std::alloc::Global;
 pub const MAX_LENGTH: usize = 16_777_216;
 
 /// What bytes begin with.
-#[derive(Drop, Debug)]
+#[derive(Drop)]
 pub enum Decoded {
     /// A message, and how many bytes it takes.
     Whole(Message, u64),

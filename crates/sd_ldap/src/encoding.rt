@@ -13,7 +13,7 @@ use sd_base::Memory;
 use std::alloc::Global;
 
 /// Why a message has no bytes.
-#[derive(Clone, Copy, Debug, PartialEq, Eq)]
+#[derive(Clone, Copy, PartialEq, Eq)]
 pub enum EncodeFault {
     /// Its contents take more than 16 MiB.
     TooLong,

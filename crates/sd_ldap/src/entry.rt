@@ -4,19 +4,32 @@ ghost use Rattle.std.specs.Prelude.{◌≡◌, IfOk};
 use sd_base::{Copied, Items, Memory, Text, Texts};
 
 /// An attribute's name and its values.
-#[derive(Drop, Debug)]
 pub struct Attribute {
     pub name: Text,
     pub values: Texts,
 }
 
+impl Drop for Attribute {
+    fn drop(self) {
+        let Attribute { name: _, values: _ } = self;
+    }
+}
+
 pub type Attributes = Items<Attribute>;
 
 /// An entry: its DN as it is written, and its attributes.
-#[derive(Drop, Debug)]
 pub struct DirEntry {
     pub dn: Text,
     pub attributes: Attributes,
+}
+
+impl Drop for DirEntry {
+    fn drop(self) {
+        let DirEntry {
+            dn: _,
+            attributes: _,
+        } = self;
+    }
 }
 
 pub type DirEntries = Items<DirEntry>;

@@ -5,7 +5,7 @@ ghost use Rattle.sd_ldap.specs.declared.fault.ReadFault.TheVariants as faults;
 use sd_base::Memory;
 use std::alloc::{AllocError, AllocFailed};
 
-#[derive(Clone, Copy, Debug, PartialEq, Eq)]
+#[derive(Clone, Copy, PartialEq, Eq)]
 pub enum ReadFault {
     Memory,
     /// The place of the tag of the first wrong element, or of the end where one is missing.

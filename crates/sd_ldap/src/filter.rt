@@ -2,7 +2,7 @@
 use sd_base::{Text, Texts};
 
 /// Which entries a search asks for.
-#[derive(Drop, Debug)]
+#[derive(Drop)]
 pub enum Filter {
     And(Vec<Filter>),
     Or(Vec<Filter>),

@@ -5,7 +5,6 @@ use crate::result::LdapResult;
 use sd_base::{Text, Texts};
 
 /// A search (RFC 4511 section 4.5.1).
-#[derive(Drop, Debug)]
 pub struct SearchRequest {
     pub base: Text,
     /// 0 the base alone, 1 one level below it, 2 the base and all below it.
@@ -21,8 +20,23 @@ pub struct SearchRequest {
     pub attributes: Texts,
 }
 
+impl Drop for SearchRequest {
+    fn drop(self) {
+        let SearchRequest {
+            base: _,
+            scope: _,
+            deref: _,
+            size: _,
+            time: _,
+            types_only: _,
+            filter: _,
+            attributes: _,
+        } = self;
+    }
+}
+
 /// What a message asks or answers.
-#[derive(Drop, Debug)]
+#[derive(Drop)]
 pub enum Operation {
     /// Version, name and simple password (section 4.2).
     BindRequest(u8, Text, Text),
@@ -37,7 +51,7 @@ pub enum Operation {
     Other(u8),
 }
 
-#[derive(Drop, Debug)]
+#[derive(Drop)]
 pub struct Message {
     pub id: u32,
     pub operation: Operation,

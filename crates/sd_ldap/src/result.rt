@@ -4,11 +4,20 @@ ghost use Rattle.std.specs.Prelude.{◌≡◌, IfOk};
 use sd_base::{Copied, Memory, Text};
 
 /// A result code, the DN that was matched, and a message for people.
-#[derive(Drop, Debug)]
 pub struct LdapResult {
     pub code: u32,
     pub dn: Text,
     pub message: Text,
+}
+
+impl Drop for LdapResult {
+    fn drop(self) {
+        let LdapResult {
+            code: _,
+            dn: _,
+            message: _,
+        } = self;
+    }
 }
 
 impl Copied for LdapResult {

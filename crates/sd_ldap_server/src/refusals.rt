@@ -19,7 +19,7 @@ pub const DOOR_FAULT: Status = 9;
 pub const REFUSED: Status = 10;
 
 /// Why serving did not begin.
-#[derive(Clone, Copy, Debug, PartialEq, Eq)]
+#[derive(Clone, Copy, PartialEq, Eq)]
 pub enum Stop {
     /// The LDIF could not be read.
     ReadFault,

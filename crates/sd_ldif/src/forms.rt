@@ -14,7 +14,7 @@ use sd_pieces::cut;
 use std::alloc::Global;
 
 /// `NAME: TEXT`, or `NAME:: BASE64`.
-#[derive(Clone, Copy, Debug)]
+#[derive(Clone, Copy)]
 pub struct Form<'a> {
     pub name: &'a [u8],
     pub is_encoded: bool,

@@ -15,7 +15,7 @@ mod records;
 pub use reading::read_ldif;
 
 /// Why a text was not read. A line that others continue is told by its own number; numbers count from 1.
-#[derive(Clone, Copy, Debug, PartialEq, Eq)]
+#[derive(Clone, Copy, PartialEq, Eq)]
 pub enum LdifFault {
     /// The line of this number has no form.
     BadLine(u32),

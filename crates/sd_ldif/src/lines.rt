@@ -36,7 +36,7 @@ pub fn first_line(text: &[u8]) -> (&[u8], Option<&[u8]>)
 }
 
 /// A line with those that continue it.
-#[derive(Drop, Debug)]
+#[derive(Drop)]
 pub struct Line {
     /// The number of the first of them, counted from 1.
     pub number: u32,

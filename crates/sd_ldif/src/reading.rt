@@ -12,7 +12,7 @@ use sd_ldap::DirEntries;
 use std::alloc::Global;
 
 /// Reading, with the line at hand, which may go on.
-#[derive(Drop, Debug)]
+#[derive(Drop)]
 pub struct Reader {
     records: Records,
     line: Line,

@@ -16,17 +16,33 @@ use sd_ldap::{Attribute, Attributes, DirEntries, DirEntry};
 use std::alloc::Global;
 
 /// A record that is not at its end.
-#[derive(Drop, Debug)]
 pub struct Draft {
     dn: Text,
     attributes: Vec<Attribute>,
 }
 
+impl Drop for Draft {
+    fn drop(self) {
+        let Draft {
+            dn: _,
+            attributes: _,
+        } = self;
+    }
+}
+
 /// The entries of the records that are whole, and the record at hand.
-#[derive(Drop, Debug)]
 pub struct Records {
     entries: DirEntries,
     draft: Option<Draft>,
+}
+
+impl Drop for Records {
+    fn drop(self) {
+        let Records {
+            entries: _,
+            draft: _,
+        } = self;
+    }
 }
 
 /// The value of a line, or the refusal of the line where it is no base64.

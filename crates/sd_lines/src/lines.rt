@@ -8,7 +8,6 @@ use sd_rules::What;
 use sd_stub::Mode;
 
 /// A user's entry: its name, its numbers, and its password, where it has one.
-#[derive(Debug, Drop)]
 pub struct UserLine {
     pub name: Text,
     pub uid: u32,
@@ -16,8 +15,19 @@ pub struct UserLine {
     pub password: Option<Text>,
 }
 
+impl Drop for UserLine {
+    fn drop(self) {
+        let UserLine {
+            name: _,
+            uid: _,
+            gid: _,
+            password: _,
+        } = self;
+    }
+}
+
 /// A member of a group, by its name.
-#[derive(Debug, Drop)]
+#[derive(Drop)]
 pub enum Member {
     User(Text),
     Group(Text),
@@ -26,29 +36,48 @@ pub enum Member {
 pub type Members = Items<Member>;
 
 /// A group's entry.
-#[derive(Debug, Drop)]
 pub struct GroupLine {
     pub name: Text,
     pub gid: u32,
     pub members: Members,
 }
 
+impl Drop for GroupLine {
+    fn drop(self) {
+        let GroupLine {
+            name: _,
+            gid: _,
+            members: _,
+        } = self;
+    }
+}
+
 /// A host's entry, and the host groups that it is in.
-#[derive(Debug, Drop)]
 pub struct HostLine {
     pub name: Text,
     pub groups: Texts,
 }
 
+impl Drop for HostLine {
+    fn drop(self) {
+        let HostLine { name: _, groups: _ } = self;
+    }
+}
+
 /// A service's entry, and the service groups that it is in.
-#[derive(Debug, Drop)]
 pub struct ServiceLine {
     pub name: Text,
     pub groups: Texts,
 }
 
+impl Drop for ServiceLine {
+    fn drop(self) {
+        let ServiceLine { name: _, groups: _ } = self;
+    }
+}
+
 /// What a condition of an access rule is about.
-#[derive(Clone, Copy, Debug, PartialEq, Eq)]
+#[derive(Clone, Copy, PartialEq, Eq)]
 pub enum Side {
     User,
     Host,
@@ -56,7 +85,7 @@ pub enum Side {
 }
 
 /// Whom a condition of an access rule meets: all of its side, one of this name, or those in this group.
-#[derive(Debug, Drop)]
+#[derive(Drop)]
 pub enum Whom {
     All,
     Name(Text),
@@ -64,7 +93,7 @@ pub enum Whom {
 }
 
 /// A condition of an access rule.
-#[derive(Debug, Drop)]
+#[derive(Drop)]
 pub struct Item {
     pub side: Side,
     pub whom: Whom,
@@ -73,15 +102,24 @@ pub struct Item {
 pub type ItemList = Items<Item>;
 
 /// The entry of an access rule (FreeIPA's host-based access control).
-#[derive(Debug, Drop)]
 pub struct RuleLine {
     pub name: Text,
     pub is_enabled: bool,
     pub items: ItemList,
 }
 
+impl Drop for RuleLine {
+    fn drop(self) {
+        let RuleLine {
+            name: _,
+            is_enabled: _,
+            items: _,
+        } = self;
+    }
+}
+
 /// The kinds of entries that a line of their own puts.
-#[derive(Clone, Copy, Debug, PartialEq, Eq)]
+#[derive(Clone, Copy, PartialEq, Eq)]
 pub enum Kind {
     User,
     Group,
@@ -91,7 +129,7 @@ pub enum Kind {
 }
 
 /// What a line asks for. Tasks are numbered from 1, servers from 0.
-#[derive(Debug, Drop)]
+#[derive(Drop)]
 pub enum Line {
     /// Nothing: an empty line or a comment.
     Blank,

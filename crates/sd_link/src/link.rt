@@ -7,7 +7,7 @@ ghost use Rattle.sd_base.specs.Causes.{HasCause};
 ghost use Rattle.sd_link.specs.Told.{with_piece};
 
 /// A link failed, or its peer has ended it.
-#[derive(Clone, Copy, Debug, PartialEq, Eq)]
+#[derive(Clone, Copy, PartialEq, Eq)]
 pub struct LinkFailed;
 
 /// A connection to a server. What it tells stays told, and what it does not tell stays untold; a call

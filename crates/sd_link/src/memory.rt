@@ -7,7 +7,6 @@ use std::alloc::Global;
 
 /// A link of which the bytes to come are given at its making, and of which some calls fail. Where it
 /// finds no memory for a piece it fails too.
-#[derive(Drop)]
 pub struct MemoryLink {
     alloc: Global,
     bytes: Vec<u8>,
@@ -17,6 +16,21 @@ pub struct MemoryLink {
     failing: Numbers,
     faults: u64,
     starved: bool,
+}
+
+impl Drop for MemoryLink {
+    fn drop(self) {
+        let MemoryLink {
+            alloc: _,
+            bytes: _,
+            at: _,
+            pieces: _,
+            calls: _,
+            failing: _,
+            faults: _,
+            starved: _,
+        } = self;
+    }
 }
 
 impl MemoryLink {

@@ -9,7 +9,7 @@ use crate::asked::USERS;
 const KNOWN: u32 = 150;
 
 /// What the answers to a load come to.
-#[derive(Clone, Copy, Debug, PartialEq, Eq)]
+#[derive(Clone, Copy, PartialEq, Eq)]
 pub struct Account {
     /// How many requests found their user.
     pub found: usize,

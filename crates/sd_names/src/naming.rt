@@ -8,22 +8,34 @@ use sd_dn::{Dn, Pair};
 use std::alloc::Global;
 
 /// A type and its value, in lower case.
-#[derive(Drop, Debug, PartialEq, Eq, Hash)]
+#[derive(Drop, PartialEq, Eq, Hash)]
 pub struct Part {
     pub name: Text,
     pub value: Text,
 }
 
 /// A relative distinguished name, in lower case.
-#[derive(Drop, Debug, PartialEq, Eq, Hash)]
+#[derive(PartialEq, Eq, Hash)]
 pub struct Level {
     pub parts: Vec<Part>,
 }
 
+impl Drop for Level {
+    fn drop(self) {
+        let Level { parts: _ } = self;
+    }
+}
+
 /// The name of an entry, its DN in lower case: two entries have equal names where their texts spell equal DNs.
-#[derive(Drop, Debug, PartialEq, Eq, Hash)]
+#[derive(PartialEq, Eq, Hash)]
 pub struct Name {
     pub levels: Vec<Level>,
+}
+
+impl Drop for Name {
+    fn drop(self) {
+        let Name { levels: _ } = self;
+    }
 }
 
 fn lower(alloc: Global, text: &Text) -> Result<Text, Memory>

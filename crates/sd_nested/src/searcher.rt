@@ -34,7 +34,7 @@ pub trait Searcher {
 }
 
 /// Why the rounds ended early.
-#[derive(Debug, Drop)]
+#[derive(Drop)]
 pub enum Stop {
     /// A search came to this result code (RFC 4511 appendix A), not 0 and not 32, no such object.
     Code(u32),

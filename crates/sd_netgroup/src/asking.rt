@@ -16,7 +16,7 @@ use sd_triples::Triples;
 use std::alloc::Global;
 
 /// What asking for a netgroup came to.
-#[derive(Drop, Debug)]
+#[derive(Drop)]
 pub enum Netted {
     /// Its triples, by the bytes of host, user and domain, each once.
     Found(Triples),

@@ -19,7 +19,7 @@ use sd_triples::Triples;
 use std::alloc::Global;
 
 /// What a directory says of a netgroup.
-#[derive(Drop, Debug)]
+#[derive(Drop)]
 pub enum Answer {
     Found(Triples),
     /// No netgroup has the name.

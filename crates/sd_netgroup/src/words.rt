@@ -6,18 +6,32 @@ use sd_base::{Memory, Text};
 use std::alloc::Global;
 
 /// Who may be in a netgroup. A field that is None is not asked for.
-#[derive(Debug, Drop)]
 pub struct Member {
     pub host: Option<Text>,
     pub user: Option<Text>,
     pub domain: Option<Text>,
 }
 
+impl Drop for Member {
+    fn drop(self) {
+        let Member {
+            host: _,
+            user: _,
+            domain: _,
+        } = self;
+    }
+}
+
 /// What is asked of the netgroup of a name: its triples, or whether a member is in it.
-#[derive(Debug, Drop)]
 pub struct Question {
     pub name: Text,
     pub member: Option<Member>,
+}
+
+impl Drop for Question {
+    fn drop(self) {
+        let Question { name: _, member: _ } = self;
+    }
 }
 
 fn field_of(alloc: Global, word: &[u8]) -> Result<Option<Text>, Memory>

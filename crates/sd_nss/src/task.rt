@@ -13,10 +13,15 @@ use std::marker::Model;
 use std::mem;
 
 /// A client's request for a key.
-#[derive(Drop)]
 pub struct NssTask {
     key: Key,
     course: LookupCourse,
+}
+
+impl Drop for NssTask {
+    fn drop(self) {
+        let NssTask { key: _, course: _ } = self;
+    }
 }
 
 impl Model for NssTask {

@@ -2,7 +2,7 @@
 use sd_rules::{By, Reply, Verdict};
 
 /// What is asked again and again.
-#[derive(Clone, Copy, Debug, PartialEq, Eq)]
+#[derive(Clone, Copy, PartialEq, Eq)]
 pub enum Kind {
     /// A user who is known and fresh.
     Fresh,

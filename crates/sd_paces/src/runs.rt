@@ -12,7 +12,7 @@ use std::alloc::Global;
 use std::time::Instant;
 
 /// What a run came to.
-#[derive(Clone, Copy, Debug, PartialEq, Eq)]
+#[derive(Clone, Copy, PartialEq, Eq)]
 pub struct Came {
     /// How many steps came to what they should; of a forget, how many entries it dropped.
     pub wanted: u64,

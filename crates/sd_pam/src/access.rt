@@ -18,11 +18,20 @@ use sd_rules::{
 use std::marker::Model;
 
 /// The words of an account check, and what decides it.
-#[derive(Drop)]
 pub struct AccessWords {
     pub user: Text,
     pub service: Text,
     pub mode: AccessMode,
+}
+
+impl Drop for AccessWords {
+    fn drop(self) {
+        let AccessWords {
+            user: _,
+            service: _,
+            mode: _,
+        } = self;
+    }
 }
 
 /// How far an account check has come.
@@ -37,10 +46,18 @@ pub enum AccessCourse {
 }
 
 /// A client's account check.
-#[derive(Drop)]
 pub struct AccessTask {
     words: AccessWords,
     course: AccessCourse,
+}
+
+impl Drop for AccessTask {
+    fn drop(self) {
+        let AccessTask {
+            words: _,
+            course: _,
+        } = self;
+    }
 }
 
 impl Model for AccessTask {

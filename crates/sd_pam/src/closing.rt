@@ -10,7 +10,7 @@ use sd_nss::lookup;
 use sd_rules::{Fetched, Given, Key, LookupStage, LookupStep, Need, Said};
 
 /// What an account check looks up, in this order. A login looks up the user alone.
-#[derive(Clone, Copy, Debug, PartialEq, Eq)]
+#[derive(Clone, Copy, PartialEq, Eq)]
 pub enum Part {
     User,
     Groups,
@@ -19,7 +19,7 @@ pub enum Part {
 }
 
 /// The requests that are led to renew answers, by the part that leads each.
-#[derive(Clone, Copy, Debug)]
+#[derive(Clone, Copy)]
 pub struct Renewals {
     pub user: Option<u64>,
     pub groups: Option<u64>,
@@ -28,7 +28,7 @@ pub struct Renewals {
 }
 
 /// How far a login or an account check that closes has come.
-#[derive(Debug, Drop)]
+#[derive(Drop)]
 pub enum Closing {
     /// This is to be told to the client; then these requests are to be carried out.
     Saying(Said, Renewals),

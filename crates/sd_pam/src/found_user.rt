@@ -7,9 +7,14 @@ use sd_rules::Record;
 use std::marker::Model;
 
 /// A record that is one of a user, which contracts see as the user's distinguished name.
-#[derive(Drop)]
 pub struct FoundUser {
     found: Shared<Record>,
+}
+
+impl Drop for FoundUser {
+    fn drop(self) {
+        let FoundUser { found: _ } = self;
+    }
 }
 
 impl Model for FoundUser {

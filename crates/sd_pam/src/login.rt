@@ -20,7 +20,6 @@ use std::alloc::Global;
 use std::marker::Model;
 
 /// The words of a login, and how its password is hashed.
-#[derive(Drop)]
 pub struct LoginWords {
     pub alloc: Global,
     pub user: Text,
@@ -28,6 +27,18 @@ pub struct LoginWords {
     pub salts: Salts,
     /// Whether a password that a server accepts leaves its hash: cache_credentials of sssd.conf(5).
     pub stores: bool,
+}
+
+impl Drop for LoginWords {
+    fn drop(self) {
+        let LoginWords {
+            alloc: _,
+            user: _,
+            password: _,
+            salts: _,
+            stores: _,
+        } = self;
+    }
 }
 
 /// How far a login has come.
@@ -42,10 +53,18 @@ pub enum LoginCourse {
 }
 
 /// A client's login.
-#[derive(Drop)]
 pub struct LoginTask {
     words: LoginWords,
     course: LoginCourse,
+}
+
+impl Drop for LoginTask {
+    fn drop(self) {
+        let LoginTask {
+            words: _,
+            course: _,
+        } = self;
+    }
 }
 
 impl Model for LoginTask {

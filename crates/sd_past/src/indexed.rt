@@ -25,12 +25,21 @@ use std::marker::Model;
 use std::mem;
 
 /// The list of the entries and its index; contracts see the entries, the newest first.
-#[derive(Drop)]
 pub struct IndexedPast {
     /// The oldest first, with room for those that close what is open.
     entries: Vec<Entry>,
     index: Index,
     hasher: Primed,
+}
+
+impl Drop for IndexedPast {
+    fn drop(self) {
+        let IndexedPast {
+            entries: _,
+            index: _,
+            hasher: _,
+        } = self;
+    }
 }
 
 impl Model for IndexedPast {

@@ -19,10 +19,15 @@ use std::alloc::Global;
 use std::marker::Model;
 
 /// The list of the entries; contracts see them, the newest first.
-#[derive(Drop)]
 pub struct ListedPast {
     /// The oldest first, with room for those that close what is open.
     entries: Vec<Entry>,
+}
+
+impl Drop for ListedPast {
+    fn drop(self) {
+        let ListedPast { entries: _ } = self;
+    }
 }
 
 impl Model for ListedPast {

@@ -10,13 +10,22 @@ use sd_entry::read_number;
 use sd_rules::User;
 
 /// Who asks for rules.
-#[derive(Debug, Drop)]
 pub struct Asker {
     pub user: User,
     /// The numbers of the user's groups, the own one among them.
     pub gids: Numbers,
     /// The names of these groups.
     pub groups: Texts,
+}
+
+impl Drop for Asker {
+    fn drop(self) {
+        let Asker {
+            user: _,
+            gids: _,
+            groups: _,
+        } = self;
+    }
 }
 
 /// The names of the netgroups in which the user stands.

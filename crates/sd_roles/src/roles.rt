@@ -10,7 +10,6 @@ use sd_ldap::{Attribute, Attributes, DirEntry};
 use std::alloc::Global;
 
 /// A sudo rule.
-#[derive(Debug, Drop)]
 pub struct Role {
     pub name: Text,
     /// Rules of a greater order come later. 0 where the entry has none that is a number of one to nine digits.
@@ -21,8 +20,19 @@ pub struct Role {
     pub handed: Attributes,
 }
 
+impl Drop for Role {
+    fn drop(self) {
+        let Role {
+            name: _,
+            order: _,
+            users: _,
+            handed: _,
+        } = self;
+    }
+}
+
 /// Why an entry is no rule.
-#[derive(Clone, Copy, Debug, PartialEq, Eq)]
+#[derive(Clone, Copy, PartialEq, Eq)]
 pub enum RoleFault {
     /// It is not of class `sudoRole`, or its first `cn` is missing or empty.
     Unfit,

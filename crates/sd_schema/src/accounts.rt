@@ -14,7 +14,7 @@ use sd_rules::{Group, Key, User};
 use std::alloc::Global;
 
 /// What a user has to have.
-#[derive(Drop, Debug)]
+#[derive(Drop)]
 pub struct Account {
     pub name: Text,
     pub uid: u32,

@@ -15,7 +15,7 @@ pub use access::{host, rule, service};
 pub use accounts::{group, user};
 
 /// Why an entry is no record that was asked for.
-#[derive(Debug, Drop)]
+#[derive(Drop)]
 pub enum Unfit {
     /// The first attribute that is missing or does not fit: `objectClass`, and then those of the record in their order.
     Attribute(Text),

@@ -10,7 +10,7 @@ use sd_ldap::{Attribute, DirEntry};
 use std::alloc::Global;
 
 /// Where things of one sort lie.
-#[derive(Clone, Copy, Debug, PartialEq, Eq)]
+#[derive(Clone, Copy, PartialEq, Eq)]
 pub enum Place {
     Users,
     Groups,

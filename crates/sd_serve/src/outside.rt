@@ -41,13 +41,24 @@ pub trait Outside {
 }
 
 /// An outside in memory, which makes one link; every further connection is refused, and so is one that finds no memory.
-#[derive(Drop)]
 pub struct MemoryOutside {
     alloc: Global,
     coming: Option<Coming>,
     used: Option<MemoryLink>,
     paths: Texts,
     faults: u64,
+}
+
+impl Drop for MemoryOutside {
+    fn drop(self) {
+        let MemoryOutside {
+            alloc: _,
+            coming: _,
+            used: _,
+            paths: _,
+            faults: _,
+        } = self;
+    }
 }
 
 /// The bytes to come on a link, and the numbers of the calls on it that are to fail, counted from 1.

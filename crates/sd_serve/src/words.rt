@@ -6,7 +6,7 @@ use sd_ldap_server::is_address;
 use sd_load::requests_of;
 
 /// What words ask for.
-#[derive(Clone, Copy, Debug, PartialEq, Eq)]
+#[derive(Clone, Copy, PartialEq, Eq)]
 pub enum Kind {
     Help,
     Version,

@@ -29,7 +29,7 @@ const MOST_SESSIONS: usize = 64;
 const SESSION_STACK: usize = 1024 * 1024;
 
 /// Why no more clients are let in.
-#[derive(Clone, Copy, Debug, PartialEq, Eq)]
+#[derive(Clone, Copy, PartialEq, Eq)]
 pub enum ServeEnd {
     /// The operator's word to end the daemon was given.
     Stopped,

@@ -17,7 +17,7 @@ const WAIT: u64 = 60;
 const WAIT_OF_HASHES: u64 = 1;
 
 /// When rows were flushed last.
-#[derive(Clone, Copy, Debug)]
+#[derive(Clone, Copy)]
 pub struct LastFlush {
     /// The moment of the last flush, also of one that failed, in seconds.
     pub moment: u64,

@@ -126,7 +126,7 @@ pub fn step<R: Wait, C: Clock>(
 }
 
 /// Why a ticket was not collected at one try.
-#[derive(Clone, Copy, Debug, PartialEq, Eq)]
+#[derive(Clone, Copy, PartialEq, Eq)]
 pub enum Uncollected {
     /// Its request is open, or another session held the turn.
     Waits,

@@ -15,11 +15,20 @@ use sd_rules::{Event, Given, Refused, Rows, Settings, StepFault};
 use std::alloc::Global;
 
 /// The two cores, which are to answer alike.
-#[derive(Drop)]
 pub struct Cores {
     pub settings: Settings,
     pub core: Core,
     pub plain: PlainCore,
+}
+
+impl Drop for Cores {
+    fn drop(self) {
+        let Cores {
+            settings: _,
+            core: _,
+            plain: _,
+        } = self;
+    }
 }
 
 /// How many servers of each kind the settings may have.

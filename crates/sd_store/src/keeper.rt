@@ -15,7 +15,7 @@ use std::io::ErrorKind;
 type Open = Connection<FileStore<File>>;
 
 /// Why a call is refused.
-#[derive(Debug, Drop)]
+#[derive(Drop)]
 enum Fault {
     /// SQLite refused.
     Sql(Error),

@@ -7,7 +7,7 @@ use std::alloc::Global;
 const CREATE: &str = "CREATE TABLE kept(place INTEGER PRIMARY KEY, body BLOB NOT NULL)";
 
 /// What a file holds.
-#[derive(Clone, Copy, Debug, PartialEq, Eq)]
+#[derive(Clone, Copy, PartialEq, Eq)]
 pub enum Found {
     /// No table, so that it is a new store.
     Nothing,

@@ -6,7 +6,7 @@ use sd_wire::number_of_four;
 const LENGTH: usize = 4;
 
 /// How many replies found a user, and how many none.
-#[derive(Clone, Copy, Debug, PartialEq, Eq)]
+#[derive(Clone, Copy, PartialEq, Eq)]
 pub struct Replies {
     pub found: usize,
     pub none: usize,

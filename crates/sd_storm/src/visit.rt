@@ -14,7 +14,6 @@ use std::alloc::Global;
 use std::sync::Wait;
 
 /// A client at the desk, and what it sends. All else that its session works with is made in the session's own thread.
-#[derive(Drop)]
 pub struct Visit<'d> {
     pub desk: &'d Desk,
     pub seat: DeskSeat,
@@ -22,6 +21,17 @@ pub struct Visit<'d> {
     pub input: Vec<u8>,
     ghost own: { IsOwn desk.now seat },
     ghost free: { HoldsNoTurn seat },
+}
+
+impl Drop for Visit<'_> {
+    fn drop(self) {
+        let Visit {
+            desk: _,
+            seat: _,
+            directory: _,
+            input: _,
+        } = self;
+    }
 }
 
 /// A dialer of one server, of which no call is to fail.

@@ -28,7 +28,6 @@ pub struct StubServer<'a> {
 
 /// A dialer of links to servers, which are counted from 0. Some of its dials and of its lines' calls fail,
 /// as told at its making.
-#[derive(Drop)]
 pub struct StubDialer<'a> {
     alloc: Global,
     servers: Vec<StubServer<'a>>,
@@ -40,6 +39,23 @@ pub struct StubDialer<'a> {
     failing_calls: Numbers,
     faults: u64,
     starved: bool,
+}
+
+impl Drop for StubDialer<'_> {
+    fn drop(self) {
+        let StubDialer {
+            alloc: _,
+            servers: _,
+            given: _,
+            dialled: _,
+            dials: _,
+            failing_dials: _,
+            calls: _,
+            failing_calls: _,
+            faults: _,
+            starved: _,
+        } = self;
+    }
 }
 
 impl<'a> Model for StubDialer<'a> {

@@ -16,10 +16,15 @@ use sd_link::{Link, LinkFailed};
 use std::marker::Model;
 
 /// A link that a dialer made.
-#[derive(Drop)]
 pub struct StubLine<'a> {
     link: StubLink<'a>,
     room: Box<Given>,
+}
+
+impl Drop for StubLine<'_> {
+    fn drop(self) {
+        let StubLine { link: _, room: _ } = self;
+    }
 }
 
 impl<'a> Model for StubLine<'a> {

@@ -19,7 +19,6 @@ use std::marker::Model;
 
 /// A link behind which a directory stands. Some of its calls fail, as told at its making; where it finds
 /// no memory a send fails too. A piece of 4 GiB or more finds none.
-#[derive(Drop)]
 pub struct StubLink<'a> {
     alloc: Global,
     directory: &'a Directory,
@@ -32,6 +31,24 @@ pub struct StubLink<'a> {
     failing: Numbers,
     faults: u64,
     starved: bool,
+}
+
+impl Drop for StubLink<'_> {
+    fn drop(self) {
+        let StubLink {
+            alloc: _,
+            directory: _,
+            mode: _,
+            put: _,
+            at: _,
+            pieces: _,
+            before: _,
+            calls: _,
+            failing: _,
+            faults: _,
+            starved: _,
+        } = self;
+    }
 }
 
 impl<'a> Model for StubLink<'a> {

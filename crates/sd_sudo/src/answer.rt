@@ -15,7 +15,7 @@ use sd_rules::User;
 use std::alloc::Global;
 
 /// What a directory says of the sudo rules of a user.
-#[derive(Debug, Drop)]
+#[derive(Drop)]
 pub enum Answer {
     /// Nobody has the name, or more than one, or the configuration keeps it out.
     NoUser,

@@ -123,7 +123,7 @@ fn push_name(names: &mut Texts, group: Option<Group>) -> Result<(), Memory>
     ensures { OnOk result (names.new ≡ names.old ++ askers.name_of group) }
 {
     match group {
-        Some(group) => names.push(group.name),
+        Some(group) => names.push(group.into_name()),
         None => Ok(()),
     }
 }

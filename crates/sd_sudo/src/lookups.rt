@@ -12,7 +12,7 @@ use sd_stub::Mode;
 use std::alloc::Global;
 
 /// What ends the searches before there is an answer.
-#[derive(Clone, Copy, Debug, PartialEq, Eq)]
+#[derive(Clone, Copy, PartialEq, Eq)]
 pub enum Halt {
     /// A request or a reply is longer than 16 MiB, or the replies of one lookup together than 64 MiB.
     Limit,

@@ -18,12 +18,22 @@ use std::marker::Model;
 ///
 /// The time of a call grows with the logarithm of their number, and that of `close` not with the tickets of the request:
 /// its outcome is kept once, until the last of them has taken it or left.
-#[derive(Drop)]
 pub struct Requests {
     keys: BTreeMap<u64, Key>,
     numbers: HashMap<Key, u64>,
     tickets: BTreeMap<u64, u64>,
     waited: BTreeMap<u64, Waited>,
+}
+
+impl Drop for Requests {
+    fn drop(self) {
+        let Requests {
+            keys: _,
+            numbers: _,
+            tickets: _,
+            waited: _,
+        } = self;
+    }
 }
 
 impl Model for Requests {

@@ -9,7 +9,7 @@ use sd_rules::Outcome;
 use std::collections::BTreeMap;
 
 /// What is kept of a request for which tickets wait.
-#[derive(Clone, Copy, Debug, PartialEq, Eq)]
+#[derive(Clone, Copy, PartialEq, Eq)]
 pub struct Waited {
     /// How many tickets wait for it.
     pub tickets: u64,

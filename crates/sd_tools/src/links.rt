@@ -15,7 +15,7 @@ use std::alloc::Global;
 pub const LONGEST_REPLY: usize = 268435456;
 
 /// Why a request got no reply.
-#[derive(Clone, Copy, Debug, PartialEq, Eq)]
+#[derive(Clone, Copy, PartialEq, Eq)]
 pub enum TalkFault {
     /// The link failed, or its peer ended it.
     Link,

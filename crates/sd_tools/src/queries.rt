@@ -9,7 +9,7 @@ use sd_wire::requests::is_name;
 use std::alloc::Global;
 
 /// What words ask.
-#[derive(Debug, Drop)]
+#[derive(Drop)]
 pub enum Query {
     /// A request that the words tell whole.
     Asked(Request),

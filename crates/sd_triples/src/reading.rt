@@ -10,7 +10,7 @@ use sd_base::Memory;
 use std::alloc::Global;
 
 /// Why a text was not read.
-#[derive(Clone, Copy, Debug, PartialEq, Eq)]
+#[derive(Clone, Copy, PartialEq, Eq)]
 pub enum TripleFault {
     /// The place of the first byte with which no triple goes on, or the length where the text ends too soon.
     BadTriple(u64),
@@ -29,7 +29,7 @@ impl From<Memory> for TripleFault {
 }
 
 /// Where reading stands.
-#[derive(Clone, Copy, Debug, PartialEq, Eq)]
+#[derive(Clone, Copy, PartialEq, Eq)]
 pub enum Stage {
     /// In front of the text.
     Start,

@@ -7,11 +7,21 @@ use std::alloc::Global;
 use std::cmp::Ordering;
 
 /// What a netgroup speaks of. An empty field stands for every host, user or domain.
-#[derive(Drop, Debug, PartialEq, Eq)]
+#[derive(PartialEq, Eq)]
 pub struct Triple {
     pub host: Text,
     pub user: Text,
     pub domain: Text,
+}
+
+impl Drop for Triple {
+    fn drop(self) {
+        let Triple {
+            host: _,
+            user: _,
+            domain: _,
+        } = self;
+    }
 }
 
 impl Copied for Triple {

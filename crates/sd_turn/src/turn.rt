@@ -62,11 +62,11 @@ pub struct Held<V: Chronicle> {
 }
 
 /// Another seat held the turn.
-#[derive(Clone, Copy, Debug, PartialEq, Eq)]
+#[derive(Clone, Copy, PartialEq, Eq)]
 pub struct Busy;
 
 /// A seat held the turn when it was closed. The turn and its value are gone.
-#[derive(Clone, Copy, Debug, PartialEq, Eq)]
+#[derive(Clone, Copy, PartialEq, Eq)]
 pub struct TurnHeld {
     /// The turn word that was found.
     pub found: u64,

@@ -9,7 +9,7 @@ use std::os::unix::net::UnixStream;
 use std::sync::Wait;
 
 /// Who comes through a door.
-#[derive(Clone, Copy, Debug, PartialEq, Eq)]
+#[derive(Clone, Copy, PartialEq, Eq)]
 pub enum Visitor {
     /// Who may send every request.
     Administrator,
@@ -27,11 +27,20 @@ pub struct Caller {
 
 /// What sessions and the entrance share: the clients that are idle between two frames go back this way, so that a client that
 /// keeps its connection keeps no thread; and the door for every user.
-#[derive(Drop)]
 pub struct WayBack {
     idle: ArrayQueue<Caller, Global>,
     waker: Waker,
     pub door: PublicDoor,
+}
+
+impl Drop for WayBack {
+    fn drop(self) {
+        let WayBack {
+            idle: _,
+            waker: _,
+            door: _,
+        } = self;
+    }
 }
 
 impl WayBack {

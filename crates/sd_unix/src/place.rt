@@ -3,7 +3,7 @@ ghost use Rattle.std.specs.Prelude.{◌≡◌};
 ghost use Rattle.sd_unix.specs.Places as places;
 
 /// How far a client's bytes have come in the frame that they stand in.
-#[derive(Clone, Copy, Debug, PartialEq, Eq)]
+#[derive(Clone, Copy, PartialEq, Eq)]
 pub enum FramePlace {
     /// Behind a whole frame, or before the first.
     Between,

@@ -14,10 +14,15 @@ use std::sync::atomic::{AtomicBool, AtomicU64, AtomicUsize, Ordering};
 const ENDING: Token = Token(0);
 
 /// What a session waits at the door by.
-#[derive(Drop)]
 struct Attendance {
     poll: Poll,
     events: Events<Global>,
+}
+
+impl Drop for Attendance {
+    fn drop(self) {
+        let Attendance { poll: _, events: _ } = self;
+    }
 }
 
 impl Attendance {
@@ -27,7 +32,6 @@ impl Attendance {
 }
 
 /// The listening socket, and who waits there: the entrance, by its registry, or the one session that has the attendance.
-#[derive(Drop)]
 pub struct PublicDoor {
     listener: UnixListener,
     entrance: Registry,
@@ -40,6 +44,22 @@ pub struct PublicDoor {
     /// The second in which the entrance gave its last client.
     last_given: AtomicU64,
     is_ending: AtomicBool,
+}
+
+impl Drop for PublicDoor {
+    fn drop(self) {
+        let PublicDoor {
+            listener: _,
+            entrance: _,
+            token: _,
+            attendance: _,
+            waker: _,
+            is_entrance_waiting: _,
+            next_number: _,
+            last_given: _,
+            is_ending: _,
+        } = self;
+    }
 }
 
 /// Has a registry tell of a listening socket.

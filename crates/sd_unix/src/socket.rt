@@ -11,10 +11,18 @@ use std::{fs, io};
 const FOLDER_MODE: u32 = 0o700;
 
 /// A socket that listens, and its path.
-#[derive(Drop)]
 pub struct ListeningSocket {
     pub listener: UnixListener,
     path: String,
+}
+
+impl Drop for ListeningSocket {
+    fn drop(self) {
+        let ListeningSocket {
+            listener: _,
+            path: _,
+        } = self;
+    }
 }
 
 /// Whether a socket may take this place: nothing is there, or the socket of a daemon that is gone.

@@ -11,7 +11,7 @@ use sd_rules::What;
 use std::alloc::Global;
 
 /// What bytes begin with.
-#[derive(Debug, Drop)]
+#[derive(Drop)]
 pub enum Framed {
     /// A request, and how many bytes its frame has.
     Frame(Request, u64),

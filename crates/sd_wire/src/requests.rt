@@ -15,7 +15,7 @@ pub const LONGEST_NAME: usize = 255;
 pub const LONGEST_PASSWORD: usize = 1024;
 
 /// What a client asks. Names and services have 1 to 255 bytes, a password at most 1024.
-#[derive(Debug, Drop, PartialEq, Eq)]
+#[derive(Drop, PartialEq, Eq)]
 pub enum Request {
     /// A user by name.
     User(Text),
