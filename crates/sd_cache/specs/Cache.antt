@@ -1,5 +1,5 @@
 -- The newest answers by keys.
-use Rattle.std.specs.Prelude.{◌≡◌, List, Option, Some, if◌then◌else◌}
+use Rattle.std.specs.Prelude.{◌≡◌, ◌∷◌, List, Option, Some, if◌then◌else◌}
 use Rattle.std.specs.Map.{lookup}
 use Rattle.std.specs.Option.{option_map}
 use Rattle.sd_rules.specs.declared.keys.Key.{Key}
@@ -20,3 +20,7 @@ after_put a k before = if speaks_of a.own a.answered k then Some (kept_of a) els
 -- for each key the newest answer of a journal is kept
 pub record HoldsNewest (past : List Entry) (answers : List (Key × Newest)) : Type 0 where
   pub each : (k : Key) → newest_in answers k ≡ option_map kept_of (newest past k)
+
+-- where the one holds the newest answers of a journal, the other does with one more entry
+abbrev pub FollowsEntry : List Entry → Entry → List (Key × Newest) → List (Key × Newest) → Type 0
+FollowsEntry past e old new = HoldsNewest past old → HoldsNewest (e ∷ past) new

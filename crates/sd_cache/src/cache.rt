@@ -1,5 +1,5 @@
 // The cache, which contracts see as the newest answers by the keys of which they speak.
-ghost use Rattle.std.specs.Prelude.{◌≡◌, [], ◌∷◌, OnOk, OnErr, List, Some};
+ghost use Rattle.std.specs.Prelude.{◌≡◌, [], OnOk, OnErr, List, Some};
 ghost use Rattle.std.specs.Option.{option_copied};
 ghost use Rattle.sd_rules.specs.declared.keys.Key.{Key};
 ghost use Rattle.sd_rules.specs.declared.replies.Entry.{Entry};
@@ -110,7 +110,7 @@ impl Cache {
         ensures err { OnErr result (self.new ≡ self.old) }
 
         // The cache stays what a journal says, where the journal's next entry holds this answer.
-        ensures journal { OnOk result ((past : List Entry) (e : Entry) → answer_in past e ≡ Some (kept.standing number moment key.now answered.now marked) → cached.HoldsNewest past self.old → cached.HoldsNewest (e ∷ past) self.new) }
+        ensures journal { OnOk result ((past : List Entry) (e : Entry) → answer_in past e ≡ Some (kept.standing number moment key.now answered.now marked) → cached.FollowsEntry past e self.old self.new) }
     {
         self.keep(number, moment, key, answered, marked)
     }

@@ -1,6 +1,6 @@
 -- The statuses that an input comes to.
 use Rattle.std.proofs.Common.{◌≡◌, ◌⊎◌, ℕ, List, Option, Some, None, arith}
-use Rattle.sd_idmap.specs.declared.endings.TheConstants.{WRITE_FAULT}
+use Rattle.sd_tools.specs.declared.endings.TheConstants.{WRITE_FAULT}
 use Rattle.sd_idmap.specs.Lines.{first_bad}
 use Rattle.sd_idmap.specs.Transcript.{transcript}
 use Rattle.sd_idmap.specs.Endings.{IsStatus, ending_by_bad, ending_by_lines}

@@ -1,24 +1,16 @@
 -- How the numbering of SIDs ends: its status and what it writes, where no fault and no want of memory comes between.
-use Rattle.std.specs.Prelude.{ℕ, Bool, true, false, ◌++◌, nat_lt, length, codes, ◌≤◌, ◌≢◌, List, [], ◌∷◌, Option, Some, None, if◌then◌else◌}
-use Rattle.std.specs.Fmt.{decimal}
+use Rattle.std.specs.Prelude.{ℕ, Bool, true, false, nat_lt, length, codes, ◌≤◌, ◌≢◌, List, [], ◌∷◌, Option, Some, None, if◌then◌else◌}
 use Rattle.sd_idmap.specs.declared.endings.Ending.{Ending}
-use Rattle.sd_idmap.specs.declared.endings.TheConstants.{DONE, USAGE, BAD_LINE, TOO_LONG, LIMIT}
+use Rattle.sd_idmap.specs.declared.endings.TheConstants.{LIMIT}
 use Rattle.sd_idmap.specs.Lines.{same_word, first_bad}
 use Rattle.sd_idmap.specs.Transcript.{transcript}
+use Rattle.sd_tools.specs.declared.endings.TheConstants.{DONE, USAGE, BAD_LINE, TOO_LONG}
+use Rattle.sd_tools.specs.Endings.{usage, too_long, bad_line}
 
 -- the one list of words that has a form
 abbrev pub is_idmap : List (List ℕ) → Bool
 is_idmap (w ∷ []) = same_word w (codes "idmap")
 is_idmap _ = false
-
-abbrev pub usage : List ℕ
-usage = codes "usage\n"
-
-abbrev pub too_long : List ℕ
-too_long = codes "too long\n"
-
-abbrev pub bad_line : ℕ → List ℕ
-bad_line n = codes "bad line " ++ (decimal n ++ codes "\n")
 
 -- the end at the first line without a form, or by what the lines print
 abbrev pub ending_by_bad : Option ℕ → List ℕ → Ending

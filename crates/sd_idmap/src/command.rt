@@ -4,14 +4,15 @@ ghost use Rattle.std.specs.Io.KnownBytes.{Appends};
 ghost use Rattle.sd_base.specs.Causes.{Rose};
 ghost use Rattle.sd_base.specs.Written.{AppendsFront};
 ghost use Rattle.sd_idmap.specs.Endings as endings;
+ghost use Rattle.sd_tools.specs.Endings as tools;
 ghost use Rattle.sd_idmap.specs.Lines as lines;
 ghost use Rattle.sd_idmap.specs.Transcript as script;
 
-use crate::endings::{
-    BAD_LINE, DONE, LIMIT, NO_MEMORY, READ_FAULT, Status, TOO_LONG, USAGE, WRITE_FAULT, end,
-    ending_of,
-};
+use crate::endings::{LIMIT, ending_of};
 use sd_base::{Memory, ReadEnd, Sink, Source, read_all};
+use sd_tools::endings::{
+    BAD_LINE, DONE, NO_MEMORY, READ_FAULT, Status, TOO_LONG, USAGE, WRITE_FAULT, end,
+};
 use std::alloc::Global;
 
 /// Whether the words are the one word `idmap`.
@@ -44,7 +45,7 @@ pub fn idmap<S: Source, W: Sink>(
 
     // The words are not the one word `idmap`: nothing is read, and `usage` is written, where the sink takes it.
     ensures usage { result ≡ USAGE → (endings.is_idmap (map string_bytes words.now) ≡ false)
-        × Appends (W.held sink.old) (W.held sink.new) endings.usage }
+        × Appends (W.held sink.old) (W.held sink.new) tools.usage }
     ensures usage_exactly { endings.is_idmap (map string_bytes words.now) ≡ false → (source.new ≡ source.old)
         × (result ≢ WRITE_FAULT → result ≡ USAGE) }
 
@@ -59,14 +60,14 @@ pub fn idmap<S: Source, W: Sink>(
     // The input is at most 16 MiB, line n is the first without a form, and `bad line n` alone is written.
     ensures bad_line { result ≡ BAD_LINE → IfSome (S.left source.old) (λ text.
         (length text ≤ LIMIT)
-        × ((n : ℕ) × (lines.first_bad text ≡ Some n) × Appends (W.held sink.old) (W.held sink.new) (endings.bad_line n))) }
+        × ((n : ℕ) × (lines.first_bad text ≡ Some n) × Appends (W.held sink.old) (W.held sink.new) (tools.bad_line n))) }
 
     // Want of memory. Nothing is written.
     ensures no_memory { result ≡ NO_MEMORY → sink.new ≡ sink.old }
 
     // The input passes 16 MiB, and `too long` is written.
     ensures too_long { result ≡ TOO_LONG → IfSome (S.left source.old) (λ text. LIMIT < length text)
-        × Appends (W.held sink.old) (W.held sink.new) endings.too_long }
+        × Appends (W.held sink.old) (W.held sink.new) tools.too_long }
 
     // With no fault counted and memory enough, the words and the text decide the status: each cause brings its own.
     ensures exactly { IfSome (S.left source.old) (λ text.

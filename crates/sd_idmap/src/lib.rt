@@ -11,9 +11,7 @@ pub mod sids;
 pub mod slices;
 
 pub use command::idmap;
-pub use endings::{
-    BAD_LINE, DONE, LIMIT, NO_MEMORY, READ_FAULT, Status, TOO_LONG, USAGE, WRITE_FAULT,
-};
+pub use endings::LIMIT;
 pub use hash::murmur;
 pub use reading::{SidFault, read_sid};
 pub use sids::{Domain, Sid};

@@ -7,9 +7,10 @@ ghost use Rattle.sd_idmap.specs.Lines as lines;
 ghost use Rattle.sd_idmap.specs.Transcript as script;
 
 use crate::lines::{Line, cut_line, line_of};
-use crate::sids::{Sid, push_bytes, push_number, push_sid};
+use crate::sids::{Sid, push_sid};
 use crate::slices::{SliceFault, Slices};
 use sd_base::{Bytes, Memory};
+use sd_wire::fields::{push_bytes, push_number};
 use std::alloc::Global;
 
 /// What was done so far: the slices of the domains, how many lines had an answer, and what was printed.

@@ -8,6 +8,7 @@ ghost use Rattle.std.proofs.Common.{rules};
 ghost use Rattle.sd_idmap.specs.Sids as sids;
 
 use sd_base::{Copied, Memory};
+use sd_wire::fields::{push_bytes, push_number};
 use std::alloc::Global;
 use std::hash::{Hash, Hasher};
 use std::marker::Model;
@@ -129,22 +130,6 @@ impl Sid {
     {
         self.domain.numbers().len() < 15
     }
-}
-
-/// Appends bytes.
-pub fn push_bytes(out: &mut Vec<u8>, bytes: &[u8]) -> Result<(), Memory>
-    ensures { OnOk result (out.new.items ≡ out.old.items ++ bytes.now) }
-{
-    out.extend_from_slice(bytes)?;
-    Ok(())
-}
-
-/// Appends a number in decimal.
-pub fn push_number(alloc: Global, out: &mut Vec<u8>, number: u64) -> Result<(), Memory>
-    ensures { OnOk result (out.new.items ≡ out.old.items ++ decimal number) }
-{
-    let digits = number.to_string(alloc)?;
-    push_bytes(out, digits.as_bytes())
 }
 
 /// Appends a part: a hyphen and a number.

@@ -1,6 +1,7 @@
 -- The last invalidations by what they cover, and what they say of an answer.
-use Rattle.std.specs.Prelude.{◌≡◌, ℕ, List, [], ◌∷◌, max, unwrap_or, if◌then◌else◌}
+use Rattle.std.specs.Prelude.{◌≡◌, ℕ, true, List, [], ◌∷◌, max, unwrap_or, if◌then◌else◌}
 use Rattle.std.specs.Map.{lookup}
+use Rattle.sd_rules.specs.declared.events.Event.TheVariants as events
 use Rattle.sd_rules.specs.declared.keys.Key.{Key}
 use Rattle.sd_rules.specs.declared.keys.Key.TheVariants as keys
 use Rattle.sd_rules.specs.declared.keys.What.{What}
@@ -13,6 +14,7 @@ use Rattle.sd_cache.specs.declared.kept.Found.{Found}
 use Rattle.sd_cache.specs.declared.kept.Found.TheVariants as founds
 use Rattle.sd_cache.specs.Kept.{found_of}
 use Rattle.sd_index.specs.Bounds.{Bounds}
+use Rattle.sd_index.specs.Entries.{numbers_fall}
 
 -- the number of the last invalidation that covers what was answered to a key, 0 where there is none
 abbrev pub last_void : List Entry → Key → Answered → ℕ
@@ -69,3 +71,9 @@ Sets (whats.Group name) number old new =
 -- the bounds are those of a journal's invalidations
 pub record HoldsVoids (past : List Entry) (b : Bounds) : Type 0 where
   pub each : (own : Key) (answered : Answered) → bound_of b own (found_of answered) ≡ last_void past own answered
+
+-- where the one holds a journal's invalidations, the other does with one more, of what this names and of this number
+abbrev pub FollowsVoid : What → ℕ → Bounds → Bounds → Type 0
+FollowsVoid what number old new =
+    (past : List Entry) (e : Entry) → e.event ≡ events.Void what → e.number ≡ number → numbers_fall number past ≡ true
+    → HoldsVoids past old → HoldsVoids (e ∷ past) new

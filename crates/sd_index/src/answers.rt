@@ -1,7 +1,7 @@
 // The answers of the entries, in the cache.
-ghost use Rattle.std.specs.Prelude.{◌≡◌, ◌∷◌, true, false, reverse, IsOk, OnOk, OnErr};
+ghost use Rattle.std.specs.Prelude.{◌≡◌, true, false, reverse, IsOk, OnOk, OnErr};
 ghost use Rattle.sd_rules.specs.Past as past;
-ghost use Rattle.sd_cache.specs.Cache.{HoldsNewest};
+ghost use Rattle.sd_cache.specs.Cache.{FollowsEntry};
 ghost use Rattle.sd_index.specs.Entries as found;
 ghost use Rattle.sd_index.specs.Filed.{is_filed};
 
@@ -20,7 +20,7 @@ fn put_under(
     answered: &Answered,
 ) -> Result<(), Memory>
     requires falls { found.falls (reverse before.now) ≡ true }
-    ensures ok { OnOk result (past.answer_in (reverse before.now) entry.now ≡ past.answer_under entry.now answered.now (past.key_of (reverse before.now) request) → HoldsNewest (reverse before.now) cache.old → HoldsNewest (entry.now ∷ reverse before.now) cache.new) }
+    ensures ok { OnOk result (past.answer_in (reverse before.now) entry.now ≡ past.answer_under entry.now answered.now (past.key_of (reverse before.now) request) → FollowsEntry (reverse before.now) entry.now cache.old cache.new) }
     ensures err { OnErr result (cache.new ≡ cache.old) }
 {
     match key_of(before, request) {
@@ -38,7 +38,7 @@ fn put_closed(
     answered: &Answered,
 ) -> Result<(), Memory>
     requires falls { found.falls (reverse before.now) ≡ true }
-    ensures ok { OnOk result (entry.now.event ≡ Event.Answer request answered.now → HoldsNewest (reverse before.now) cache.old → HoldsNewest (entry.now ∷ reverse before.now) cache.new) }
+    ensures ok { OnOk result (entry.now.event ≡ Event.Answer request answered.now → FollowsEntry (reverse before.now) entry.now cache.old cache.new) }
     ensures err { OnErr result (cache.new ≡ cache.old) }
 {
     if is_closed(entry.reply) {
@@ -50,7 +50,7 @@ fn put_closed(
 
 /// Puts the answer of a kept row, if it holds one.
 fn put_row(cache: &mut Cache, before: &[Entry], entry: &Entry, row: &Row) -> Result<(), Memory>
-    ensures ok { OnOk result (entry.now.event ≡ Event.Kept row.now → HoldsNewest (reverse before.now) cache.old → HoldsNewest (entry.now ∷ reverse before.now) cache.new) }
+    ensures ok { OnOk result (entry.now.event ≡ Event.Kept row.now → FollowsEntry (reverse before.now) entry.now cache.old cache.new) }
     ensures err { OnErr result (cache.new ≡ cache.old) }
 {
     match row {
@@ -64,7 +64,7 @@ fn put_row(cache: &mut Cache, before: &[Entry], entry: &Entry, row: &Row) -> Res
 /// Puts the answer that an entry holds, if it holds one; `before` are the entries before it.
 pub fn put_answer(cache: &mut Cache, before: &[Entry], entry: &Entry) -> Result<(), Memory>
     requires falls { found.falls (reverse before.now) ≡ true }
-    ensures ok { OnOk result (HoldsNewest (reverse before.now) cache.old → HoldsNewest (entry.now ∷ reverse before.now) cache.new) }
+    ensures ok { OnOk result (FollowsEntry (reverse before.now) entry.now cache.old cache.new) }
     ensures err { OnErr result (cache.new ≡ cache.old) }
     ensures free { is_filed entry.now.event ≡ false → IsOk result }
 {

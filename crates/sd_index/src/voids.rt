@@ -1,8 +1,6 @@
 // The last invalidations, by what they cover: an answer is voided where its number is below a bound.
-ghost use Rattle.std.specs.Prelude.{◌≡◌, ◌∷◌, ℕ, List, true, max, OnOk, OnErr, if◌then◌else◌};
-ghost use Rattle.sd_rules.specs.declared.replies.Entry.{Entry};
+ghost use Rattle.std.specs.Prelude.{◌≡◌, ℕ, List, max, OnOk, OnErr, if◌then◌else◌};
 ghost use Rattle.sd_rules.specs.Keys.{same_name};
-ghost use Rattle.sd_index.specs.Entries.{numbers_fall};
 ghost use Rattle.sd_index.specs.Voids as voids;
 
 use indexmap::IndexMap;
@@ -133,7 +131,7 @@ impl Voids {
 
     /// Notes an invalidation by the number of its entry, which is greater than those before it.
     pub fn note(&mut self, what: &What, number: u64) -> Result<(), Memory>
-        ensures ok { OnOk result ((past : List Entry) (e : Entry) → e.event ≡ Event.Void what.now → e.number ≡ number → numbers_fall number past ≡ true → voids.HoldsVoids past self.old → voids.HoldsVoids (e ∷ past) self.new) }
+        ensures ok { OnOk result (voids.FollowsVoid what.now number self.old self.new) }
         ensures err { OnErr result (self.new ≡ self.old) }
     {
         self.set(what, number)

@@ -16,20 +16,34 @@ use std::marker::Model;
 
 /// A line of a scenario and its number, counted from 1. A block is one of them; where it is bad, the number is that of the
 /// line in it that is at fault.
-#[derive(Drop)]
 pub struct Statement {
     pub number: u64,
     pub line: Line,
 }
 
+impl Drop for Statement {
+    fn drop(self) {
+        let Statement { number: _, line: _ } = self;
+    }
+}
+
 /// The first of some lines, or their first block, and what comes behind it.
-#[derive(Drop)]
 pub struct Next<'a> {
     pub statement: Statement,
     /// The number of the first line behind it.
     pub number: u64,
     /// The lines behind it.
     pub rest: Option<&'a [u8]>,
+}
+
+impl Drop for Next<'_> {
+    fn drop(self) {
+        let Next {
+            statement: _,
+            number: _,
+            rest: _,
+        } = self;
+    }
 }
 
 /// A block that has not ended.

@@ -8,7 +8,7 @@ ghost use Rattle.sd_layout.specs.Head as heads;
 ghost use Rattle.sd_layout.specs.Seen.{head_seen};
 ghost use Rattle.sd_lines.specs.Words as words;
 
-use crate::blocks::{Next, Statement, first_statement};
+use crate::blocks::{Statement, first_statement};
 use crate::head::{Head, Origin, head_of};
 use sd_base::Memory;
 use sd_conf::{ConfFault, Config, read_conf};
@@ -109,10 +109,10 @@ fn tasks_after(tasks: u64, line: &Line) -> u64
 }
 
 /// What lines behind a line can name, or the number of that line, where it has no form where it stands.
-fn scope_behind(scope: Scope, statement: Statement) -> Result<Scope, u64>
+fn scope_behind(scope: Scope, statement: &Statement) -> Result<Scope, u64>
     requires { scope.tasks + 1 < 2 ^ 64 }
-    ensures next { IfOk result (λ next. (faults.is_bad_in scope statement.line ≡ false) × (next ≡ faults.scope_after scope statement.line)) }
-    ensures bad { IfErr result (λ number. (faults.is_bad_in scope statement.line ≡ true) × (number ≡ statement.number)) }
+    ensures next { IfOk result (λ next. (faults.is_bad_in scope statement.now.line ≡ false) × (next ≡ faults.scope_after scope statement.now.line)) }
+    ensures bad { IfErr result (λ number. (faults.is_bad_in scope statement.now.line ≡ true) × (number ≡ statement.now.number)) }
     ensures few { IfOk result (λ next. next.tasks ≤ scope.tasks + 1) }
 {
     if is_bad_in(scope, &statement.line) {
@@ -138,17 +138,13 @@ fn first_bad_from(
     let mut scope = Scope { servers, tasks: 0 };
     let mut left = body;
     while let Some(bytes) = left {
-        let Next {
-            statement,
-            number: behind,
-            rest,
-        } = first_statement(alloc, number, bytes)?;
-        match scope_behind(scope, statement) {
-            Ok(next) => scope = next,
+        let next = first_statement(alloc, number, bytes)?;
+        match scope_behind(scope, &next.statement) {
+            Ok(behind) => scope = behind,
             Err(bad) => return Ok(Some(bad)),
         }
-        number = behind;
-        left = rest;
+        number = next.number;
+        left = next.rest;
     }
     Ok(None)
 }

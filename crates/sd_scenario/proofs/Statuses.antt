@@ -1,6 +1,6 @@
 -- The statuses that a scenario comes to.
 use Rattle.std.proofs.Common.{◌≡◌, ◌⊎◌, ℕ, Bool, true, false, List, Option, Some, None, arith}
-use Rattle.sd_scenario.specs.declared.endings.TheConstants.{WRITE_FAULT}
+use Rattle.sd_tools.specs.declared.endings.TheConstants.{WRITE_FAULT}
 use Rattle.sd_layout.specs.Faults.{first_bad}
 use Rattle.sd_scenario.specs.Transcript.{Transcript, transcript}
 use Rattle.sd_scenario.specs.Endings.{IsStatus, ending_by_bad, ending_by_lines, ending_by_journal}

@@ -1,28 +1,20 @@
 -- How a scenario ends: its status and what it writes, where no fault and no want of memory comes between.
-use Rattle.std.specs.Prelude.{ℕ, Bool, true, false, ◌++◌, nat_lt, length, codes, ◌≤◌, ◌≢◌, List, [], ◌∷◌, Option, Some, None, Ok, if◌then◌else◌}
-use Rattle.std.specs.Fmt.{decimal}
+use Rattle.std.specs.Prelude.{ℕ, Bool, true, false, nat_lt, length, codes, ◌≤◌, ◌≢◌, List, [], ◌∷◌, Option, Some, None, Ok, if◌then◌else◌}
 use Rattle.sd_rules.specs.Keys.{same_name}
 use Rattle.sd_scenario.specs.declared.endings.Ending.{Ending}
-use Rattle.sd_scenario.specs.declared.endings.TheConstants.{DONE, USAGE, BAD_LINE, JOURNAL_FULL, TOO_LONG, LIMIT}
+use Rattle.sd_scenario.specs.declared.endings.TheConstants.{JOURNAL_FULL, LIMIT}
 use Rattle.sd_conf.specs.declared.config.Config.{Config}
 use Rattle.sd_layout.specs.Blocks.{statements_of}
 use Rattle.sd_layout.specs.Faults.{first_bad, first_bad_by}
 use Rattle.sd_layout.specs.Head.{Head}
 use Rattle.sd_scenario.specs.Transcript.{Transcript, transcript, transcript_by}
+use Rattle.sd_tools.specs.declared.endings.TheConstants.{DONE, USAGE, BAD_LINE, TOO_LONG}
+use Rattle.sd_tools.specs.Endings.{usage, too_long, bad_line}
 
 -- the one list of words that has a form
 abbrev pub is_scenario : List (List ℕ) → Bool
 is_scenario (w ∷ []) = same_name w (codes "scenario")
 is_scenario _ = false
-
-abbrev pub usage : List ℕ
-usage = codes "usage\n"
-
-abbrev pub too_long : List ℕ
-too_long = codes "too long\n"
-
-abbrev pub bad_line : ℕ → List ℕ
-bad_line n = codes "bad line " ++ (decimal n ++ codes "\n")
 
 -- the end of a scenario whose lines all have forms
 abbrev pub status_by_journal : Bool → ℕ

@@ -4,14 +4,15 @@ ghost use Rattle.std.specs.Io.KnownBytes.{Appends};
 ghost use Rattle.sd_base.specs.Causes.{Rose};
 ghost use Rattle.sd_base.specs.Written.{AppendsFront};
 ghost use Rattle.sd_scenario.specs.Endings as endings;
+ghost use Rattle.sd_tools.specs.Endings as tools;
 ghost use Rattle.sd_layout.specs.Faults as lines;
 ghost use Rattle.sd_scenario.specs.Transcript as script;
 
-use crate::endings::{
-    BAD_LINE, DONE, JOURNAL_FULL, LIMIT, NO_MEMORY, READ_FAULT, Status, TOO_LONG, USAGE,
-    WRITE_FAULT, end, ending_of,
-};
+use crate::endings::{JOURNAL_FULL, LIMIT, ending_of};
 use sd_base::{Memory, ReadEnd, Sink, Source, read_all};
+use sd_tools::endings::{
+    BAD_LINE, DONE, NO_MEMORY, READ_FAULT, Status, TOO_LONG, USAGE, WRITE_FAULT, end,
+};
 use std::alloc::Global;
 
 /// Whether the words are the one word `scenario`.
@@ -44,7 +45,7 @@ pub fn scenario<S: Source, W: Sink>(
 
     // The words are not the one word `scenario`: nothing is read, and `usage` is written, where the sink takes it.
     ensures usage { result ≡ USAGE → (endings.is_scenario (map string_bytes words.now) ≡ false)
-        × Appends (W.held sink.old) (W.held sink.new) endings.usage }
+        × Appends (W.held sink.old) (W.held sink.new) tools.usage }
     ensures usage_exactly { endings.is_scenario (map string_bytes words.now) ≡ false → (source.new ≡ source.old)
         × (result ≢ WRITE_FAULT → result ≡ USAGE) }
 
@@ -59,7 +60,7 @@ pub fn scenario<S: Source, W: Sink>(
     // The input is at most 16 MiB, line n is the first without a form, and `bad line n` alone is written.
     ensures bad_line { result ≡ BAD_LINE → IfSome (S.left source.old) (λ text.
         (length text ≤ LIMIT)
-        × ((n : ℕ) × (lines.first_bad text ≡ Some n) × Appends (W.held sink.old) (W.held sink.new) (endings.bad_line n))) }
+        × ((n : ℕ) × (lines.first_bad text ≡ Some n) × Appends (W.held sink.old) (W.held sink.new) (tools.bad_line n))) }
 
     // Whatever the text, its tasks come to rest: the bound on their moves is not used up.
     ensures bounded { (text : List ℕ) → (script.transcript text).is_endless ≡ false }
@@ -76,7 +77,7 @@ pub fn scenario<S: Source, W: Sink>(
 
     // The input passes 16 MiB, and `too long` is written.
     ensures too_long { result ≡ TOO_LONG → IfSome (S.left source.old) (λ text. LIMIT < length text)
-        × Appends (W.held sink.old) (W.held sink.new) endings.too_long }
+        × Appends (W.held sink.old) (W.held sink.new) tools.too_long }
 
     // With no fault counted and memory enough, the words and the text decide the status: each cause brings its own.
     ensures exactly { IfSome (S.left source.old) (λ text.

@@ -1,47 +1,21 @@
 // How a scenario ends: its status and what it writes.
-ghost use Rattle.std.specs.Prelude.{◌≡◌, ◌≢◌, ◌<◌, ◌+◌, ◌⊎◌, ◌^◌, length, IfOk, codes, true};
-ghost use Rattle.std.specs.Io.KnownBytes.{Appends};
-ghost use Rattle.sd_base.specs.Causes.{Rose};
-ghost use Rattle.sd_base.specs.Written.{AppendsFront};
+ghost use Rattle.std.specs.Prelude.{◌≡◌, ◌<◌, ◌+◌, ◌^◌, length, IfOk, true};
 ghost use Rattle.std.specs.Option.{option_copied};
 ghost use Rattle.sd_layout.specs.Blocks.{bytes_left};
 ghost use Rattle.sd_layout.specs.Faults.{has_few_servers};
 ghost use Rattle.sd_layout.specs.Seen.{head_seen};
 ghost use Rattle.sd_scenario.specs.Endings as endings;
+ghost use Rattle.sd_tools.specs.Endings as tools;
 
 use crate::runs::{Printed, run};
-use sd_base::{Bytes, Memory, Sink, WriteFault, write_all};
+use sd_base::{Bytes, Memory};
 use sd_conf::Config;
 use sd_layout::{ConfigRead, Head, config_of, first_bad_behind, head_of};
-use sd_wire::fields::{push_bytes, push_number};
+use sd_tools::endings::{BAD_LINE, DONE, Status, bad_line};
 use std::alloc::Global;
-
-/// The status that a program ends with.
-pub type Status = u8;
-
-/// The work was done.
-pub const DONE: Status = 0;
-
-/// The words have no form.
-pub const USAGE: Status = 2;
-
-/// The source failed.
-pub const READ_FAULT: Status = 3;
-
-/// The sink failed, or it took nothing of a nonempty piece.
-pub const WRITE_FAULT: Status = 4;
-
-/// A line has no form.
-pub const BAD_LINE: Status = 5;
 
 /// The journal had no room for a step.
 pub const JOURNAL_FULL: Status = 6;
-
-/// Want of memory.
-pub const NO_MEMORY: Status = 7;
-
-/// The input passes its limit.
-pub const TOO_LONG: Status = 8;
 
 /// The most bytes that a scenario has: 16 MiB.
 pub const LIMIT: usize = 16777216;
@@ -63,15 +37,11 @@ impl Drop for Ending {
 
 /// The end at a line without a form.
 fn ending_at_line(alloc: Global, number: u64) -> Result<Ending, Memory>
-    ensures { IfOk result (λ ending. ending ≡ record { status = BAD_LINE; output = endings.bad_line number }) }
+    ensures { IfOk result (λ ending. ending ≡ record { status = BAD_LINE; output = tools.bad_line number }) }
 {
-    let mut output = Vec::new(alloc);
-    push_bytes(&mut output, b"bad line ")?;
-    push_number(alloc, &mut output, number)?;
-    push_bytes(&mut output, b"\n")?;
     Ok(Ending {
         status: BAD_LINE,
-        output: Bytes::from_bytes(alloc, output.as_slice())?,
+        output: bad_line(alloc, number)?,
     })
 }
 
@@ -108,18 +78,5 @@ pub fn ending_of(alloc: Global, text: &[u8]) -> Result<Ending, Memory>
     match config_of(alloc, &head)? {
         ConfigRead::BadLine(number) => ending_at_line(alloc, number),
         ConfigRead::Config(config) => ending_behind(alloc, &head, config),
-    }
-}
-
-/// Writes what an ending writes.
-pub fn end<W: Sink>(sink: &mut W, status: Status, output: &[u8]) -> Status
-    requires { status ≢ WRITE_FAULT }
-    ensures status { (result ≡ status) ⊎ (result ≡ WRITE_FAULT) }
-    ensures written { result ≢ WRITE_FAULT → (result ≡ status) × Appends (W.held sink.old) (W.held sink.new) output.now }
-    ensures fault { result ≡ WRITE_FAULT → Rose (W.faults sink.old) (W.faults sink.new) × AppendsFront (W.held sink.old) (W.held sink.new) output.now }
-{
-    match write_all(sink, output) {
-        Ok(()) => status,
-        Err(WriteFault) => WRITE_FAULT,
     }
 }

@@ -12,7 +12,4 @@ pub mod task;
 pub mod world;
 
 pub use command::scenario;
-pub use endings::{
-    BAD_LINE, DONE, JOURNAL_FULL, LIMIT, NO_MEMORY, READ_FAULT, Status, TOO_LONG, USAGE,
-    WRITE_FAULT,
-};
+pub use endings::{JOURNAL_FULL, LIMIT};

@@ -19,7 +19,7 @@ use Rattle.sd_netgroup.specs.Endings as nets
 use Rattle.sd_netgroup.specs.Words.{question_of}
 use Rattle.sd_scenario.specs.Endings as ends
 use Rattle.sd_scenario.specs.Transcript as script
-use Rattle.sd_scenario.specs.declared.endings.TheConstants.{LIMIT, BAD_LINE, JOURNAL_FULL}
+use Rattle.sd_scenario.specs.declared.endings.TheConstants.{LIMIT, JOURNAL_FULL}
 use Rattle.sd_load.specs.Lines.{storm_lines}
 use Rattle.sd_storm.specs.Endings as storms
 use Rattle.sd_sudo.specs.Endings as rules
@@ -28,7 +28,7 @@ use Rattle.sd_tools.specs.Endings as endings
 use Rattle.sd_tools.specs.Options.{requests_of}
 use Rattle.sd_tools.specs.Queries.{query_of, needs_password, first_line}
 use Rattle.sd_tools.specs.Replies as replies
-use Rattle.sd_tools.specs.declared.endings.TheConstants.{DONE, READ_FAULT, WRITE_FAULT, NO_MEMORY, TOO_LONG, NO_DAEMON, BAD_REPLY}
+use Rattle.sd_tools.specs.declared.endings.TheConstants.{DONE, BAD_LINE, READ_FAULT, WRITE_FAULT, NO_MEMORY, TOO_LONG, NO_DAEMON, BAD_REPLY}
 use Rattle.sd_wire.specs.Frames.{is_sound}
 use Rattle.sd_wire.specs.declared.requests.TheConstants.{LONGEST_PASSWORD}
 
@@ -48,12 +48,12 @@ pub record Plays {S W : Type 0} (left : S → Option (List ℕ)) (read_faults : 
       × ((script.transcript text).is_full ≡ false) × Appends (held sink) (held sink') (script.transcript text).text)
   -- line n is the first without a form, and `bad line n` alone was written
   pub bad_line : status ≡ BAD_LINE → IfSome (left source) (λ text. (length text ≤ LIMIT)
-      × ((n : ℕ) × (lines.first_bad text ≡ Some n) × Appends (held sink) (held sink') (ends.bad_line n)))
+      × ((n : ℕ) × (lines.first_bad text ≡ Some n) × Appends (held sink) (held sink') (endings.bad_line n)))
   -- a step of the transcript is refused as full; the transcript was written, whose last line is `journal full n`
   pub journal_full : status ≡ JOURNAL_FULL → IfSome (left source) (λ text. (length text ≤ LIMIT) × (lines.first_bad text ≡ None)
       × ((script.transcript text).is_full ≡ true) × Appends (held sink) (held sink') (script.transcript text).text)
   -- the input passes 16 MiB, and `too long` was written
-  pub too_long : status ≡ TOO_LONG → IfSome (left source) (λ text. LIMIT < length text) × Appends (held sink) (held sink') ends.too_long
+  pub too_long : status ≡ TOO_LONG → IfSome (left source) (λ text. LIMIT < length text) × Appends (held sink) (held sink') endings.too_long
   -- the sink failed, and a front of the output was written
   pub front : status ≡ WRITE_FAULT → IfSome (left source) (λ text. AppendsFront (held sink) (held sink') (ends.ending_of text).output)
   -- with no fault counted and memory enough, the text decides the status: each cause brings its own
@@ -73,9 +73,9 @@ pub record Numbers {S W : Type 0} (left : S → Option (List ℕ)) (read_faults 
       × Appends (held sink) (held sink') (id_script.transcript text))
   -- line n is the first without a form, and `bad line n` alone was written
   pub bad_line : status ≡ BAD_LINE → IfSome (left source) (λ text. (length text ≤ LIMIT)
-      × ((n : ℕ) × (id_lines.first_bad text ≡ Some n) × Appends (held sink) (held sink') (ids.bad_line n)))
+      × ((n : ℕ) × (id_lines.first_bad text ≡ Some n) × Appends (held sink) (held sink') (endings.bad_line n)))
   -- the input passes 16 MiB, and `too long` was written
-  pub too_long : status ≡ TOO_LONG → IfSome (left source) (λ text. LIMIT < length text) × Appends (held sink) (held sink') ids.too_long
+  pub too_long : status ≡ TOO_LONG → IfSome (left source) (λ text. LIMIT < length text) × Appends (held sink) (held sink') endings.too_long
   -- the sink failed, and a front of the output was written
   pub front : status ≡ WRITE_FAULT → IfSome (left source) (λ text. AppendsFront (held sink) (held sink') (ids.ending_of text).output)
   -- with no fault counted and memory enough, the text decides the status: each cause brings its own

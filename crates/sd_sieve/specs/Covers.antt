@@ -8,7 +8,7 @@ use Rattle.sd_rules.specs.declared.records.Answered.{Answered}
 use Rattle.sd_rules.specs.declared.records.Answered.TheVariants.{Found}
 use Rattle.sd_rules.specs.declared.records.Record.TheVariants as records
 use Rattle.sd_rules.specs.declared.replies.Entry.{Entry}
-use Rattle.sd_rules.specs.Keys.{is_user_key, is_groups_key, is_group_key}
+use Rattle.sd_rules.specs.Keys.{covers, is_user_key, is_groups_key, is_group_key}
 use Rattle.sd_rules.specs.Logins.{is_name}
 use Rattle.sd_rules.specs.Needed.{last_where, is_void_of, is_newest_answer, is_covered}
 use Rattle.sd_rules.specs.Past.{answer_in, or_else}
@@ -40,6 +40,11 @@ first_if names first last number = if names then first_of first last number else
 abbrev pub PutFirst : (List ℕ → Bool) → List (List ℕ × ℕ) → ℕ → List (List ℕ × ℕ) → List (List ℕ × ℕ) → Type 0
 PutFirst names lasts number old new =
     (n : List ℕ) → number_under new n ≡ first_if (names n) (number_under old n) (number_under lasts n) number
+
+-- an answer of this number comes first of what is invalidated and covers it, where none came before
+abbrev pub NotesAnswer : Key → Answered → ℕ → ByWhat → ByWhat → ByWhat → Type 0
+NotesAnswer own answered number lasts old new =
+    (what : What) → number_for new what ≡ first_if (covers what own answered) (number_for old what) (number_for lasts what) number
 
 -- either name is one, where there are
 abbrev pub is_either : Option (List ℕ) → Option (List ℕ) → List ℕ → Bool
@@ -83,6 +88,10 @@ where_last (Some last) first = first
 -- of each name that is invalidated, the oldest of the newest answers that this covers, in a part of the entries
 pub record HoldCovered (all part : List Entry) (lasts firsts : ByWhat) : Type 0 where
   pub each : (what : What) → number_for firsts what ≡ where_last (number_for lasts what) (first_covered all what part)
+
+-- where the one holds the first numbers of a part, the other does of the part with one more entry
+abbrev pub FollowsEntry : List Entry → List Entry → Entry → ByWhat → ByWhat → ByWhat → Type 0
+FollowsEntry all part e lasts old new = HoldCovered all part lasts old → HoldCovered all (e ∷ part) lasts new
 
 -- a first number stands before another
 abbrev pub is_before : Option ℕ → ℕ → Bool

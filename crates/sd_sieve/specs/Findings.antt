@@ -47,11 +47,14 @@ abbrev pub answer_for : List Entry → Option ℕ → Option ℕ
 answer_for all None = None
 answer_for all (Some request) = answer_of_outcome (outcome_of all request)
 
+-- numbers, and behind them what a ticket that waits for a request will look at
+abbrev pub with_awaited : List Entry → Option ℕ → List ℕ → List ℕ
+with_awaited all request numbers = (numbers ++ listed (closing_for all request)) ++ listed (answer_for all request)
+
 -- what the tickets will look at that wait and that a part of the entries gave
 abbrev pub awaited : List Entry → List Entry → List ℕ
 awaited all [] = []
-awaited all (e ∷ past) =
-    (awaited all past ++ listed (closing_for all (waits_for all e.number))) ++ listed (answer_for all (waits_for all e.number))
+awaited all (e ∷ past) = with_awaited all (waits_for all e.number) (awaited all past)
 
 -- what was found is that of a journal, given the oldest first
 pub record IsFound (entries : List Entry) (f : Findings) : Type 0 where

@@ -1,9 +1,8 @@
 // The last invalidation of each name, and the oldest of the newest answers that it covers.
-ghost use Rattle.std.specs.Prelude.{◌≡◌, ◌∷◌, ◌<◌, ℕ, List, length, reverse, take, true, slice_index_or, IfOk, OnOk, None, if◌then◌else◌};
+ghost use Rattle.std.specs.Prelude.{◌≡◌, ◌∷◌, ◌<◌, List, length, reverse, take, true, slice_index_or, IfOk, OnOk, None, if◌then◌else◌};
 ghost use Rattle.std.specs.Option.{option_copied};
 ghost use Rattle.sd_rules.specs.declared.keys.What.{What};
 ghost use Rattle.sd_rules.specs.declared.replies.Entry.{Entry};
-ghost use Rattle.sd_rules.specs.Keys as keyed;
 ghost use Rattle.sd_rules.specs.Logins.{is_name};
 ghost use Rattle.sd_rules.specs.Needed.{same_what};
 ghost use Rattle.sd_sieve.specs.Covers as covers;
@@ -210,7 +209,7 @@ fn note_answer(
     a: Standing<'_>,
     number: u64,
 ) -> Result<(), Memory>
-    ensures { OnOk result ((what : What) → covers.number_for firsts.new what ≡ covers.first_if (keyed.covers what a.entry.own.now a.entry.answered.now) (covers.number_for firsts.old what) (covers.number_for lasts.now what) number) }
+    ensures { OnOk result (covers.NotesAnswer a.entry.own.now a.entry.answered.now number lasts.now firsts.old firsts.new) }
 {
     note_kinds(firsts, lasts, a.own, number);
     let (by_key, found) = (user_of_key(a.own), user_found(a.answered));
@@ -243,7 +242,7 @@ fn note_covered(
     requires marks { MarkNewest all.now newest.now }
     requires within { place < length all.now }
     requires at { entry.now ≡ slice_index_or all.now place entry.now }
-    ensures { OnOk result (covers.HoldCovered (reverse all.now) (reverse (take place all.now)) lasts.now firsts.old → covers.HoldCovered (reverse all.now) (entry.now ∷ reverse (take place all.now)) lasts.now firsts.new) }
+    ensures { OnOk result (covers.FollowsEntry (reverse all.now) (reverse (take place all.now)) entry.now lasts.now firsts.old firsts.new) }
 {
     if !is_newest_at(all, newest, place, entry) {
         return Ok(());

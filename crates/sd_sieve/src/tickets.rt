@@ -42,7 +42,7 @@ fn answer_for(entries: &[Entry], request: Option<u64>) -> Option<u64>
 /// Puts at the end what a ticket will look at, where it waits.
 pub fn put_awaited(numbers: &mut Vec<u64>, whole: Whole<'_>, ticket: u64) -> Result<(), Memory>
     requires { held.IsIndexed whole }
-    ensures { OnOk result (numbers.new.items ≡ (numbers.old.items ++ findings.listed (findings.closing_for (held.past_of whole.entry) (requests.waits_for (held.past_of whole.entry) ticket))) ++ findings.listed (findings.answer_for (held.past_of whole.entry) (requests.waits_for (held.past_of whole.entry) ticket))) }
+    ensures { OnOk result (numbers.new.items ≡ findings.with_awaited (held.past_of whole.entry) (requests.waits_for (held.past_of whole.entry) ticket) numbers.old.items) }
 {
     let request = waits_for(whole, ticket);
     put(numbers, closing_for(whole.entries, request))?;

@@ -1,5 +1,6 @@
 -- How a tool ends: its status and what it writes.
-use Rattle.std.specs.Prelude.{◌≡◌, ◌≢◌, ◌⊎◌, ℕ, codes, true, List, [], Option, Some, None, Result, Err}
+use Rattle.std.specs.Prelude.{◌≡◌, ◌≢◌, ◌⊎◌, ◌++◌, ℕ, codes, true, List, [], Option, Some, None, Result, Err}
+use Rattle.std.specs.Fmt.{decimal}
 use Rattle.sd_tools.specs.Queries.{first_line}
 use Rattle.sd_tools.specs.declared.endings.TheConstants.{DONE, USAGE, READ_FAULT, WRITE_FAULT, NO_MEMORY, TOO_LONG, NO_DAEMON, BAD_REPLY}
 use Rattle.sd_tools.specs.declared.links.TalkFault.{TalkFault}
@@ -15,6 +16,10 @@ usage = codes "usage\n"
 
 abbrev pub too_long : List ℕ
 too_long = codes "too long\n"
+
+-- at the line of this number, counted from 1, which has no form
+abbrev pub bad_line : ℕ → List ℕ
+bad_line n = codes "bad line " ++ (decimal n ++ codes "\n")
 
 abbrev pub no_daemon : List ℕ
 no_daemon = codes "no daemon\n"

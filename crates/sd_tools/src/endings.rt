@@ -7,8 +7,8 @@ ghost use Rattle.sd_tools.specs.Endings as endings;
 ghost use Rattle.sd_tools.specs.Replies as replies;
 
 use crate::links::TalkFault;
-use sd_base::{Memory, Sink, Text, WriteFault, write_all};
-use sd_wire::fields::push_bytes;
+use sd_base::{Bytes, Memory, Sink, Text, WriteFault, write_all};
+use sd_wire::fields::{push_bytes, push_number};
 use std::alloc::Global;
 
 /// The status that a program ends with.
@@ -25,6 +25,9 @@ pub const READ_FAULT: Status = 3;
 
 /// The sink failed, or it took nothing of a nonempty piece.
 pub const WRITE_FAULT: Status = 4;
+
+/// A line of the input has no form.
+pub const BAD_LINE: Status = 5;
 
 /// Want of memory.
 pub const NO_MEMORY: Status = 7;
@@ -49,6 +52,17 @@ pub fn end<W: Sink>(sink: &mut W, status: Status, output: &[u8]) -> Status
         Ok(()) => status,
         Err(WriteFault) => WRITE_FAULT,
     }
+}
+
+/// What is written where a line of the input has no form, by its number, counted from 1.
+pub fn bad_line(alloc: Global, number: u64) -> Result<Bytes, Memory>
+    ensures { IfOk result (λ output. output ≡ endings.bad_line number) }
+{
+    let mut output = Vec::new(alloc);
+    push_bytes(&mut output, b"bad line ")?;
+    push_number(alloc, &mut output, number)?;
+    push_bytes(&mut output, b"\n")?;
+    Bytes::from_bytes(alloc, output.as_slice())
 }
 
 /// The texts of replies, each with the end of a line, and an ending.

@@ -9,6 +9,7 @@ pub mod queries;
 pub mod tools;
 
 pub use endings::{
-    BAD_REPLY, DONE, NO_DAEMON, NO_MEMORY, READ_FAULT, Status, TOO_LONG, USAGE, WRITE_FAULT,
+    BAD_LINE, BAD_REPLY, DONE, NO_DAEMON, NO_MEMORY, READ_FAULT, Status, TOO_LONG, USAGE,
+    WRITE_FAULT,
 };
 pub use tools::{cache, has_form_of_cache, has_form_of_query, query};

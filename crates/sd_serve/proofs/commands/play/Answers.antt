@@ -5,7 +5,8 @@ use Rattle.sd_base.specs.Written.{AppendsFront}
 use Rattle.sd_layout.specs.Faults as lines
 use Rattle.sd_scenario.specs.Endings as ends
 use Rattle.sd_scenario.specs.Transcript as script
-use Rattle.sd_scenario.specs.declared.endings.TheConstants.{NO_MEMORY, LIMIT}
+use Rattle.sd_scenario.specs.declared.endings.TheConstants.{LIMIT}
+use Rattle.sd_tools.specs.declared.endings.TheConstants.{NO_MEMORY}
 use Rattle.sd_serve.proofs.Spoken.{is_the_word}
 use Rattle.sd_serve.proofs.Played.{known_by}
 use Rattle.sd_serve.proofs.commands.play.Goals as goal
