@@ -11,7 +11,7 @@ use crate::lines::{Entry, entries};
 use crate::options::{ConfOption, row_of};
 use crate::servers::ServerList;
 use crate::texts::items;
-use sd_base::{Copied, Memory, Text};
+use sd_base::{Copied, Memory, Text, Texts};
 use sd_rules::{Settings, SimpleLists};
 use std::alloc::Global;
 
@@ -46,15 +46,79 @@ impl Drop for Config {
     }
 }
 
+/// The users and the groups that two options list.
+fn users_and_groups(
+    alloc: Global,
+    choices: &Choices<'_>,
+    users: ConfOption,
+    groups: ConfOption,
+    otherwise: &[u8],
+) -> Result<(Texts, Texts), Memory>
+    ensures users { IfOk result (λ found. found.0 ≡ chosen.texts (chosen.chosen choices.now) users otherwise.now) }
+    ensures groups { IfOk result (λ found. found.1 ≡ chosen.texts (chosen.chosen choices.now) groups otherwise.now) }
+{
+    let users = choices.texts(alloc, users, otherwise)?;
+    let groups = choices.texts(alloc, groups, otherwise)?;
+    Ok((users, groups))
+}
+
 fn simple_lists(alloc: Global, choices: &Choices<'_>) -> Result<SimpleLists, Memory>
     ensures { IfOk result (λ lists. lists ≡ config.simple_lists (chosen.chosen choices.now)) }
 {
+    let (allow_users, allow_groups) = users_and_groups(
+        alloc,
+        choices,
+        ConfOption::SimpleAllowUsers,
+        ConfOption::SimpleAllowGroups,
+        &[],
+    )?;
+    let (deny_users, deny_groups) = users_and_groups(
+        alloc,
+        choices,
+        ConfOption::SimpleDenyUsers,
+        ConfOption::SimpleDenyGroups,
+        &[],
+    )?;
     Ok(SimpleLists {
-        allow_users: choices.texts(alloc, ConfOption::SimpleAllowUsers, &[])?,
-        deny_users: choices.texts(alloc, ConfOption::SimpleDenyUsers, &[])?,
-        allow_groups: choices.texts(alloc, ConfOption::SimpleAllowGroups, &[])?,
-        deny_groups: choices.texts(alloc, ConfOption::SimpleDenyGroups, &[])?,
+        allow_users,
+        deny_users,
+        allow_groups,
+        deny_groups,
     })
+}
+
+/// The settings that have these parts.
+fn settings_of(
+    choices: &Choices<'_>,
+    counts: (u32, u32),
+    filtered: (Texts, Texts),
+    simple: SimpleLists,
+    hostname: Text,
+) -> Settings
+    ensures { result ≡ record (config.settings (chosen.chosen choices.now)) { primaries = counts.0; backups = counts.1; filter_users = filtered.0; filter_groups = filtered.1; simple = simple; hostname = hostname } }
+{
+    let timeout = choices.number(ConfOption::EntryCacheTimeout, 5400);
+    Settings {
+        user_timeout: choices.number(ConfOption::EntryCacheUserTimeout, timeout),
+        group_timeout: choices.number(ConfOption::EntryCacheGroupTimeout, timeout),
+        negative_timeout: choices.number(ConfOption::EntryNegativeTimeout, 15),
+        nowait: choices.number(ConfOption::EntryCacheNowaitPercentage, 50),
+        offline_timeout: choices.number(ConfOption::OfflineTimeout, 60),
+        hbac_refresh: choices.number(ConfOption::IpaHbacRefresh, 5),
+        expiration_days: choices.number(ConfOption::OfflineCredentialsExpiration, 0),
+        attempts: choices.number(ConfOption::OfflineFailedLoginAttempts, 0),
+        delay_minutes: choices.number(ConfOption::OfflineFailedLoginDelay, 5),
+        cached_auth_timeout: choices.number(ConfOption::CachedAuthTimeout, 0),
+        journal_limit: choices.number(ConfOption::JournalLimit, 1_000_000),
+        primaries: counts.0,
+        backups: counts.1,
+        cache_credentials: choices.flag(ConfOption::CacheCredentials),
+        filter_users: filtered.0,
+        filter_groups: filtered.1,
+        access: choices.access(),
+        simple,
+        hostname,
+    }
 }
 
 fn settings(
@@ -67,36 +131,16 @@ fn settings(
     requires backups { backups ≡ length (chosen.backups (chosen.chosen choices.now)) }
     ensures { IfOk result (λ made. made ≡ config.settings (chosen.chosen choices.now)) }
 {
-    let timeout = choices.number(ConfOption::EntryCacheTimeout, 5400);
-    Ok(Settings {
-        user_timeout: choices.number(ConfOption::EntryCacheUserTimeout, timeout),
-        group_timeout: choices.number(ConfOption::EntryCacheGroupTimeout, timeout),
-        negative_timeout: choices.number(ConfOption::EntryNegativeTimeout, 15),
-        nowait: choices.number(ConfOption::EntryCacheNowaitPercentage, 50),
-        offline_timeout: choices.number(ConfOption::OfflineTimeout, 60),
-        hbac_refresh: choices.number(ConfOption::IpaHbacRefresh, 5),
-        expiration_days: choices.number(ConfOption::OfflineCredentialsExpiration, 0),
-        attempts: choices.number(ConfOption::OfflineFailedLoginAttempts, 0),
-        delay_minutes: choices.number(ConfOption::OfflineFailedLoginDelay, 5),
-        cached_auth_timeout: choices.number(ConfOption::CachedAuthTimeout, 0),
-        journal_limit: choices.number(ConfOption::JournalLimit, 1_000_000),
-        primaries,
-        backups,
-        cache_credentials: choices.flag(ConfOption::CacheCredentials),
-        filter_users: choices.texts(alloc, ConfOption::FilterUsers, b"root")?,
-        filter_groups: choices.texts(alloc, ConfOption::FilterGroups, b"root")?,
-        access: choices.access(),
-        simple: simple_lists(alloc, choices)?,
-        hostname: choices.text(alloc, ConfOption::IpaHostname, &[])?,
-    })
-}
-
-/// All servers, with how many are primaries and backups.
-#[derive(Drop)]
-struct Listed {
-    servers: ServerList,
-    primaries: u32,
-    backups: u32,
+    let filtered = users_and_groups(
+        alloc,
+        choices,
+        ConfOption::FilterUsers,
+        ConfOption::FilterGroups,
+        b"root",
+    )?;
+    let simple = simple_lists(alloc, choices)?;
+    let hostname = choices.text(alloc, ConfOption::IpaHostname, &[])?;
+    Ok(settings_of(choices, (primaries, backups), filtered, simple, hostname))
 }
 
 fn append(servers: &mut ServerList, others: &ServerList) -> Result<(), Memory>
@@ -108,21 +152,18 @@ fn append(servers: &mut ServerList, others: &ServerList) -> Result<(), Memory>
     Ok(())
 }
 
-fn all_servers(alloc: Global, choices: &Choices<'_>) -> Result<Listed, Memory>
-    ensures servers { IfOk result (λ made. made.servers ≡ chosen.primaries (chosen.chosen choices.now) ++ chosen.backups (chosen.chosen choices.now)) }
-    ensures primaries { IfOk result (λ made. made.primaries ≡ length (chosen.primaries (chosen.chosen choices.now))) }
-    ensures backups { IfOk result (λ made. made.backups ≡ length (chosen.backups (chosen.chosen choices.now))) }
+/// Appends the backups, and tells how many they are.
+fn append_backups(
+    alloc: Global,
+    choices: &Choices<'_>,
+    servers: &mut ServerList,
+) -> Result<u32, Memory>
+    ensures servers { OnOk result (servers.new ≡ servers.old ++ chosen.backups (chosen.chosen choices.now)) }
+    ensures count { IfOk result (λ count. count ≡ length (chosen.backups (chosen.chosen choices.now))) }
 {
-    let mut servers = choices.primaries(alloc)?;
-    let others = choices.backups(alloc)?;
-    let primaries = servers.len() as u32;
-    let backups = others.len() as u32;
-    append(&mut servers, &others)?;
-    Ok(Listed {
-        servers,
-        primaries,
-        backups,
-    })
+    let backups = choices.backups(alloc)?;
+    append(servers, &backups)?;
+    Ok(backups.len() as u32)
 }
 
 fn base(alloc: Global, choices: &Choices<'_>) -> Result<Text, Memory>
@@ -134,17 +175,42 @@ fn base(alloc: Global, choices: &Choices<'_>) -> Result<Text, Memory>
     }
 }
 
+fn domain_and_base(alloc: Global, choices: &Choices<'_>) -> Result<(Text, Text), Memory>
+    ensures domain { IfOk result (λ found. found.0 ≡ choices.now.domain.now) }
+    ensures base { IfOk result (λ found. found.1 ≡ unwrap_or (chosen.base (chosen.chosen choices.now)) []) }
+{
+    let domain = Text::from_bytes(alloc, choices.domain)?;
+    let base = base(alloc, choices)?;
+    Ok((domain, base))
+}
+
+fn servers_and_settings(
+    alloc: Global,
+    choices: &Choices<'_>,
+) -> Result<(ServerList, Settings), Memory>
+    ensures servers { IfOk result (λ made. made.0 ≡ chosen.primaries (chosen.chosen choices.now) ++ chosen.backups (chosen.chosen choices.now)) }
+    ensures settings { IfOk result (λ made. made.1 ≡ config.settings (chosen.chosen choices.now)) }
+{
+    let mut servers = choices.primaries(alloc)?;
+    let primaries = servers.len() as u32;
+    let backups = append_backups(alloc, choices, &mut servers)?;
+    let settings = settings(alloc, choices, primaries, backups)?;
+    Ok((servers, settings))
+}
+
 fn whole_config(alloc: Global, choices: &Choices<'_>) -> Result<Config, Memory>
     ensures { IfOk result (λ made. made ≡ config.config (chosen.chosen choices.now)) }
 {
-    let listed = all_servers(alloc, choices)?;
+    let pwfield = choices.text(alloc, ConfOption::Pwfield, b"*")?;
+    let (domain, base) = domain_and_base(alloc, choices)?;
+    let (servers, settings) = servers_and_settings(alloc, choices)?;
     Ok(Config {
-        settings: settings(alloc, choices, listed.primaries, listed.backups)?,
-        domain: Text::from_bytes(alloc, choices.domain)?,
-        base: base(alloc, choices)?,
-        servers: listed.servers,
+        settings,
+        domain,
+        base,
+        servers,
         level: choices.number(ConfOption::LdapGroupNestingLevel, 2),
-        pwfield: choices.text(alloc, ConfOption::Pwfield, b"*")?,
+        pwfield,
         unknown: choices.unknown(),
     })
 }
@@ -185,6 +251,23 @@ fn domains<'a>(alloc: Global, choices: &Choices<'a>) -> Result<Vec<&'a [u8]>, Me
     }
 }
 
+fn of_domains<'a>(
+    alloc: Global,
+    choices: &mut Choices<'a>,
+    domains: &[&'a [u8]],
+) -> Result<Config, ConfFault>
+    ensures { config.Answers result (config.of_domains (forms.settings_seen choices.old.entries.items) (map (λ x. x.now) domains.now)) }
+{
+    match domains {
+        [] => Err(ConfFault::NoDomain),
+        [domain] => {
+            choices.domain = domain;
+            of_domain(alloc, choices)
+        }
+        _ => Err(ConfFault::ManyDomains(told(domains.len()))),
+    }
+}
+
 fn of_entries(alloc: Global, entries: Vec<Entry<'_>>) -> Result<Config, ConfFault>
     ensures { config.Answers result (config.of_settings (forms.settings_seen entries.entry.items)) }
 {
@@ -193,14 +276,7 @@ fn of_entries(alloc: Global, entries: Vec<Entry<'_>>) -> Result<Config, ConfFaul
         domain: &[],
     };
     let domains = domains(alloc, &choices)?;
-    match domains.as_slice() {
-        [] => Err(ConfFault::NoDomain),
-        [domain] => {
-            choices.domain = domain;
-            of_domain(alloc, &choices)
-        }
-        _ => Err(ConfFault::ManyDomains(told(domains.len()))),
-    }
+    of_domains(alloc, &mut choices, &domains)
 }
 
 /// Reads a configuration, or tells why it is refused: first a line without a form or a key before any

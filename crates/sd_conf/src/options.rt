@@ -7,7 +7,7 @@ ghost use Rattle.sd_conf.specs.Options as options;
 use crate::lines::Entry;
 
 /// The sections that are read: `sssd`, `nss`, `pam`, and the one of the domain.
-#[derive(Clone, Copy, PartialEq, Eq)]
+#[derive(Clone, Copy)]
 pub enum Part {
     Sssd,
     Nss,
@@ -16,7 +16,7 @@ pub enum Part {
 }
 
 /// What a value may be.
-#[derive(Clone, Copy, PartialEq, Eq)]
+#[derive(Clone, Copy)]
 pub enum Rule {
     /// Any text.
     Any,
@@ -41,7 +41,7 @@ pub enum Rule {
 }
 
 /// An option, by its key in sssd.conf(5).
-#[derive(Clone, Copy, PartialEq, Eq)]
+#[derive(Clone, Copy)]
 pub enum ConfOption {
     Domains,
     Services,

@@ -13,7 +13,7 @@ use sd_rules::AccessMode;
 use std::alloc::Global;
 
 /// Where the domain's records come from: id_provider of sssd.conf(5).
-#[derive(Clone, Copy, PartialEq, Eq)]
+#[derive(Clone, Copy)]
 pub enum Provider {
     Ldap,
     Ipa,
