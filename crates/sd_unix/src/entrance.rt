@@ -5,7 +5,7 @@ use crate::callers::{Caller, Visitor, WayBack};
 use crate::connection::{ClientSink, ClientSource, WayOut};
 use crate::lobby::{Guest, Lobby, MOST_GUESTS};
 use crate::public_door::PublicDoor;
-use crate::socket::ListeningSocket;
+use crate::socket::{ListeningSocket, longer_path};
 use mio::unix::SourceFd;
 use mio::{Events, Interest, Poll, Token};
 use sd_base::{Memory, Sink, Source};
@@ -45,17 +45,46 @@ enum Accepted {
     Failed,
 }
 
-/// Both sockets, and the clients that are connected and have sent nothing yet.
+/// Both sockets.
+struct Sockets {
+    administrator: ListeningSocket,
+    public: ListeningSocket,
+}
+
+impl Drop for Sockets {
+    fn drop(self) {
+        let Sockets {
+            administrator: _,
+            public: _,
+        } = self;
+    }
+}
+
+/// The clients that are connected and have sent nothing yet, and what is waited for them by.
+struct Hall {
+    poll: Poll,
+    events: Events<Global>,
+    lobby: Lobby<Caller>,
+}
+
+impl Drop for Hall {
+    fn drop(self) {
+        let Hall {
+            poll: _,
+            events: _,
+            lobby: _,
+        } = self;
+    }
+}
+
+/// Both sockets, and what is behind them.
 #[derive(Drop)]
 pub struct Entrance<'r, R: Files + Net + Clock> {
     rt: &'r R,
-    administrator: ListeningSocket,
-    public: ListeningSocket,
-    poll: Poll,
-    events: Events<Global>,
+    sockets: Sockets,
+    hall: Hall,
     is_administrator_waiting: bool,
     is_anyone_waiting: bool,
-    lobby: Lobby<Caller>,
     opened: Instant,
     way_back: Arc<WayBack, Global>,
 }
@@ -108,48 +137,102 @@ pub fn second_since(clock: &impl Clock, moment: &Instant) -> u64 {
     }
 }
 
-impl<'r, R: Files + Net + Clock + Wait + Alloc<A = Global>> Entrance<'r, R> {
-    /// Listens at a path, for the administrator, and at `PATH.public`.
-    pub fn open(rt: &'r R, path: &str) -> io::Result<Entrance<'r, R>> {
-        let alloc = rt.alloc();
-        let own = format!(in alloc; "{path}")?;
-        let shared = format!(in alloc; "{path}.public")?;
+impl Hall {
+    /// An empty hall.
+    fn new(net: &impl Net, alloc: Global) -> io::Result<Hall> {
         let lobby = Lobby::new(alloc).map_err(out_of_memory)?;
         let events = Events::with_capacity(alloc, MOST_EVENTS)?;
-        let administrator = ListeningSocket::open(rt, own, OWN_MODE)?;
-        let public = ListeningSocket::open(rt, shared, PUBLIC_MODE)?;
-        let poll = Poll::new(rt)?;
-        watch(&poll, administrator.listener.as_raw_fd(), ADMINISTRATOR)?;
-        let door = PublicDoor::new(
-            rt,
-            alloc,
-            public.listener.try_clone()?,
-            poll.registry().try_clone()?,
-            Token(ANYONE),
-            FIRST_GUEST,
-        )?;
-        let way_back = WayBack::new(alloc, poll.registry(), Token(COMING_BACK), door)?;
-        Ok(Entrance {
-            rt,
-            administrator,
-            public,
+        let poll = Poll::new(net)?;
+        Ok(Hall {
             poll,
             events,
+            lobby,
+        })
+    }
+}
+
+/// Listens at `PATH` with this behind it.
+fn socket_at<R: Files + Net + Alloc<A = Global>>(
+    rt: &R,
+    path: &str,
+    more: &str,
+    mode: u32,
+) -> io::Result<ListeningSocket> {
+    let path = longer_path(rt, path, more)?;
+    ListeningSocket::open(rt, path, mode)
+}
+
+impl Sockets {
+    /// Listens at a path, for the administrator, and at `PATH.public`.
+    fn open<R: Files + Net + Alloc<A = Global>>(rt: &R, path: &str) -> io::Result<Sockets> {
+        let administrator = socket_at(rt, path, "", OWN_MODE)?;
+        let public = socket_at(rt, path, ".public", PUBLIC_MODE)?;
+        Ok(Sockets {
+            administrator,
+            public,
+        })
+    }
+
+    /// Takes both away.
+    fn remove<R: Files>(&self, rt: &R) {
+        self.administrator.remove(rt);
+        self.public.remove(rt);
+    }
+}
+
+/// The door at the socket for every user of the host, where a wait at this poll lets clients in.
+fn public_door(
+    net: &impl Net,
+    alloc: Global,
+    public: &ListeningSocket,
+    poll: &Poll,
+) -> io::Result<PublicDoor> {
+    let listener = public.listener.try_clone()?;
+    let registry = poll.registry().try_clone()?;
+    PublicDoor::new(net, alloc, listener, registry, Token(ANYONE), FIRST_GUEST)
+}
+
+/// Has a wait at this poll end where somebody comes to a socket, or comes back.
+fn attach<R: Net + Alloc<A = Global>>(
+    rt: &R,
+    poll: &Poll,
+    sockets: &Sockets,
+) -> io::Result<Arc<WayBack, Global>> {
+    watch(
+        poll,
+        sockets.administrator.listener.as_raw_fd(),
+        ADMINISTRATOR,
+    )?;
+    let door = public_door(rt, rt.alloc(), &sockets.public, poll)?;
+    let way_back = WayBack::new(rt.alloc(), poll.registry(), Token(COMING_BACK), door)?;
+    Ok(Arc::new(rt.alloc(), way_back)?)
+}
+
+impl<'r, R: Files + Net + Clock + Wait + Alloc<A = Global>> Entrance<'r, R> {
+    /// Listens at a path, for the administrator, and at `PATH.public`; the lobby is empty.
+    pub fn open(rt: &'r R, path: &str) -> io::Result<Entrance<'r, R>> {
+        let opened = Instant::now(rt)?;
+        let hall = Hall::new(rt, rt.alloc())?;
+        let sockets = Sockets::open(rt, path)?;
+        let way_back = attach(rt, &hall.poll, &sockets)?;
+        Ok(Entrance {
+            rt,
+            sockets,
+            hall,
             is_administrator_waiting: true,
             is_anyone_waiting: true,
-            lobby,
-            opened: Instant::now(rt)?,
-            way_back: Arc::new(alloc, way_back)?,
+            opened,
+            way_back,
         })
     }
 
     /// Lets somebody into the lobby. Who cannot be watched there is sent away.
     fn let_in(&mut self, caller: Caller) {
         let number = caller.number;
-        if watch(&self.poll, caller.stream.as_raw_fd(), number).is_err() {
+        if watch(&self.hall.poll, caller.stream.as_raw_fd(), number).is_err() {
             return;
         }
-        self.lobby.admit(Guest {
+        self.hall.lobby.admit(Guest {
             connection: caller,
             number,
             came: second_since(self.rt, &self.opened),
@@ -179,21 +262,21 @@ impl<'r, R: Files + Net + Clock + Wait + Alloc<A = Global>> Entrance<'r, R> {
 
     /// Makes room where the system lacks a descriptor: whoever has been silent for longest is sent away.
     fn make_room(&mut self) {
-        drop(self.lobby.take_first());
+        drop(self.hall.lobby.take_first());
         thread::sleep(self.rt, Duration::from_millis(PAUSE));
     }
 
     /// Lets one caller in at each door.
     fn answer_doors(&mut self) {
         if self.is_administrator_waiting {
-            match accept_at(&self.administrator.listener) {
+            match accept_at(&self.sockets.administrator.listener) {
                 Accepted::Came(stream) => self.welcome(stream, Visitor::Administrator),
                 Accepted::Nobody => self.is_administrator_waiting = false,
                 Accepted::Failed => self.make_room(),
             }
         }
         if self.is_anyone_waiting {
-            match accept_at(&self.public.listener) {
+            match accept_at(&self.sockets.public.listener) {
                 Accepted::Came(stream) => self.welcome(stream, Visitor::Anyone),
                 Accepted::Nobody => self.is_anyone_waiting = false,
                 Accepted::Failed => self.make_room(),
@@ -205,7 +288,7 @@ impl<'r, R: Files + Net + Clock + Wait + Alloc<A = Global>> Entrance<'r, R> {
     fn rest(&self) -> Option<Duration> {
         if self.is_administrator_waiting || self.is_anyone_waiting {
             Some(Duration::ZERO)
-        } else if self.lobby.is_empty() {
+        } else if self.hall.lobby.is_empty() {
             None
         } else {
             Some(Duration::from_secs(1))
@@ -215,13 +298,13 @@ impl<'r, R: Files + Net + Clock + Wait + Alloc<A = Global>> Entrance<'r, R> {
     /// Waits until somebody comes or sends something, or somebody may have been silent for too long.
     fn look(&mut self) -> io::Result<()> {
         let rest = self.rest();
-        self.poll.poll(&mut self.events, rest)?;
-        for event in self.events.iter() {
+        self.hall.poll.poll(&mut self.hall.events, rest)?;
+        for event in self.hall.events.iter() {
             match event.token() {
                 Token(ADMINISTRATOR) => self.is_administrator_waiting = true,
                 Token(ANYONE) => self.is_anyone_waiting = true,
                 Token(COMING_BACK) => {}
-                Token(number) => self.lobby.note_sent(number),
+                Token(number) => self.hall.lobby.note_sent(number),
             }
         }
         Ok(())
@@ -231,7 +314,7 @@ impl<'r, R: Files + Net + Clock + Wait + Alloc<A = Global>> Entrance<'r, R> {
     fn send_silent_away(&mut self) {
         let now = second_since(self.rt, &self.opened);
         for _ in 0..MOST_GUESTS {
-            if self.lobby.take_silent(now).is_none() {
+            if self.hall.lobby.take_silent(now).is_none() {
                 return;
             }
         }
@@ -257,8 +340,8 @@ impl<'r, R: Files + Net + Clock + Wait + Alloc<A = Global>> Entrance<'r, R> {
             number: _,
             came: _,
             has_sent: _,
-        } = self.lobby.take_sent()?;
-        forget(&self.poll, caller.stream.as_raw_fd()).ok()?;
+        } = self.hall.lobby.take_sent()?;
+        forget(&self.hall.poll, caller.stream.as_raw_fd()).ok()?;
         let out = self.copy_of(&caller.stream).ok()?;
         let way_back = Arc::try_clone(&self.way_back).ok()?;
         self.way_back
@@ -300,7 +383,6 @@ impl<'r, R: Files + Net + Clock + Wait + Alloc<A = Global>> Entrance<'r, R> {
 
     /// Takes both sockets away.
     pub fn close(self) {
-        self.administrator.remove(self.rt);
-        self.public.remove(self.rt);
+        self.sockets.remove(self.rt);
     }
 }

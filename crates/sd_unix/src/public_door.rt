@@ -25,7 +25,26 @@ impl Drop for Attendance {
     }
 }
 
+/// Has a registry tell of a listening socket.
+fn watch(registry: &Registry, listener: &UnixListener, token: Token) -> io::Result<()> {
+    let descriptor = listener.as_raw_fd();
+    registry.register(&mut SourceFd(&descriptor), token, Interest::READABLE)
+}
+
 impl Attendance {
+    /// A session's place to wait for clients at this listening socket.
+    fn new(
+        net: &impl Net,
+        alloc: Global,
+        listener: &UnixListener,
+        token: Token,
+    ) -> io::Result<Attendance> {
+        let poll = Poll::new(net)?;
+        watch(poll.registry(), listener, token)?;
+        let events = Events::with_capacity(alloc, 1)?;
+        Ok(Attendance { poll, events })
+    }
+
     fn wait(&mut self) -> io::Result<()> {
         self.poll.poll(&mut self.events, None)
     }
@@ -62,12 +81,6 @@ impl Drop for PublicDoor {
     }
 }
 
-/// Has a registry tell of a listening socket.
-fn watch(registry: &Registry, listener: &UnixListener, token: Token) -> io::Result<()> {
-    let descriptor = listener.as_raw_fd();
-    registry.register(&mut SourceFd(&descriptor), token, Interest::READABLE)
-}
-
 impl PublicDoor {
     /// A door at which the entrance waits, by this registry and token. The first client has this number.
     pub fn new(
@@ -78,16 +91,14 @@ impl PublicDoor {
         token: Token,
         first_number: usize,
     ) -> io::Result<PublicDoor> {
-        let poll = Poll::new(net)?;
-        let events = Events::with_capacity(alloc, 1)?;
-        let waker = Waker::new(poll.registry(), ENDING)?;
-        watch(poll.registry(), &listener, token)?;
         watch(&entrance, &listener, token)?;
+        let attendance = Attendance::new(net, alloc, &listener, token)?;
+        let waker = Waker::new(attendance.poll.registry(), ENDING)?;
         Ok(PublicDoor {
             listener,
             entrance,
             token,
-            attendance: Mutex::new(Attendance { poll, events }),
+            attendance: Mutex::new(attendance),
             waker,
             is_entrance_waiting: AtomicBool::new(false),
             next_number: AtomicUsize::new(first_number),

@@ -61,6 +61,11 @@ fn clear_folder<R: Files>(rt: &R, folder: &str, made: &str) {
     let _ = fs::remove_dir(rt, folder);
 }
 
+/// A path with this behind it.
+pub fn longer_path<R: Alloc<A = Global>>(rt: &R, path: &str, more: &str) -> io::Result<String> {
+    Ok(format!(in rt.alloc(); "{path}{more}")?)
+}
+
 impl ListeningSocket {
     /// Listens at a path. The socket has its mode from the first moment in which others can reach it: it is
     /// made in a folder that they may not enter, and moved to its place. A socket that nobody answers at is
@@ -74,8 +79,8 @@ impl ListeningSocket {
         if !is_free(rt, at)? {
             return Err(io::Error::from(ErrorKind::AddrInUse));
         }
-        let folder = format!(in rt.alloc(); "{at}.new")?;
-        let made = format!(in rt.alloc(); "{at}.new/socket")?;
+        let folder = longer_path(rt, at, ".new")?;
+        let made = longer_path(rt, at, ".new/socket")?;
         clear_folder(rt, folder.as_str(), made.as_str());
         let mut builder = DirBuilder::new();
         builder.mode(FOLDER_MODE);
