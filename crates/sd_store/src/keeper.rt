@@ -2,11 +2,13 @@
 ghost use Rattle.std.specs.Prelude.{◌≡◌, false, IfOk, None};
 ghost use Rattle.sd_keeper.specs.Keeping as keeping;
 
+use crate::copy::Copy;
 use crate::table::{self, Found, Kept};
 use crate::{copy, file};
 use sd_base::{Blobs, Bytes};
 use sd_keeper::{Keeper, KeeperFault, holds_hash};
 use sqlite::{Alter, Connection, Error, ErrorCode, File, FileStore};
+use sqlite_disk::Disk;
 use std::alloc::Global;
 use std::io;
 use std::io::ErrorKind;
@@ -24,6 +26,23 @@ enum Fault {
     /// The file is no store.
     NoStore,
     Memory,
+}
+
+/// What the file holds.
+#[derive(Drop)]
+struct Content {
+    found: Found,
+    kept: Kept,
+}
+
+impl Content {
+    /// No table.
+    fn nothing(alloc: Global) -> Content {
+        Content {
+            found: Found::Nothing,
+            kept: Kept::nothing(alloc),
+        }
+    }
 }
 
 /// Blobs in a SQLite file, as the table `kept(place INTEGER PRIMARY KEY, body BLOB NOT NULL)`. It tells no content. Each
@@ -51,18 +70,6 @@ fn sql<T: Drop>(done: Result<T, Error>) -> Result<T, Fault> {
     done.map_err(Fault::Sql)
 }
 
-/// Opens the file, and tells what it holds.
-fn open(rt: &HostRuntime, path: &str) -> Result<(Open, Found), Fault> {
-    match file::prepare(rt, path) {
-        Ok(true) => {}
-        Ok(false) => return Err(Fault::NoStore),
-        Err(error) => return Err(Fault::Io(error)),
-    }
-    let mut conn = sql(Connection::open(rt, path))?;
-    let found = found_in(&mut conn)?;
-    Ok((conn, found))
-}
-
 /// What a database holds, where it is a store.
 fn found_in<S: Alter>(conn: &mut Connection<S>) -> Result<Found, Fault> {
     match sql(table::content_of(conn))? {
@@ -78,19 +85,75 @@ fn kept_of<S: Alter>(alloc: Global, conn: &mut Connection<S>, found: Found) -> R
     sql(table::kept_in(alloc, conn))
 }
 
+/// Reads a database, where it is a store.
+fn content_of<S: Alter>(alloc: Global, conn: &mut Connection<S>) -> Result<Content, Fault> {
+    let found = found_in(conn)?;
+    let kept = kept_of(alloc, conn, found)?;
+    Ok(Content { found, kept })
+}
+
+// What is called with a store of one kind of file is written over any kind of file, so that no caller proves again what such a
+// store is.
+
+/// Likewise, of one in files.
+fn content_in<D: Disk + Drop>(
+    alloc: Global,
+    conn: &mut Connection<FileStore<D>>,
+) -> Result<Content, Fault> {
+    content_of(alloc, conn)
+}
+
+/// Writes these blobs over what a store in files holds, in one transaction.
+fn replace<D: Disk + Drop>(
+    conn: &mut Connection<FileStore<D>>,
+    content: &Content,
+    blobs: &[Bytes],
+) -> Result<(), Fault> {
+    sql(table::replace(conn, content.found, &content.kept, blobs))
+}
+
+/// Refuses a file that is no store's.
+fn prepare(rt: &HostRuntime, path: &str) -> Result<(), Fault> {
+    match file::prepare(rt, path) {
+        Ok(true) => Ok(()),
+        Ok(false) => Err(Fault::NoStore),
+        Err(error) => Err(Fault::Io(error)),
+    }
+}
+
+fn connect(rt: &HostRuntime, path: &str) -> Result<Open, Fault> {
+    match Connection::open(rt, path) {
+        Ok(conn) => Ok(conn),
+        Err(error) => Err(Fault::Sql(error)),
+    }
+}
+
+/// Opens the file, and reads it.
+fn open(rt: &HostRuntime, path: &str) -> Result<(Open, Content), Fault> {
+    prepare(rt, path)?;
+    let mut conn = connect(rt, path)?;
+    let content = content_in(rt.alloc(), &mut conn)?;
+    Ok((conn, content))
+}
+
 fn read_file(rt: &HostRuntime, path: &str) -> Result<Blobs, Fault> {
-    let (mut conn, found) = open(rt, path)?;
-    let kept = kept_of(rt.alloc(), &mut conn, found)?;
+    let (conn, content) = open(rt, path)?;
     sql(conn.close())?;
-    Ok(kept.into_blobs())
+    Ok(content.kept.into_blobs())
+}
+
+fn connect_copy(rt: &HostRuntime, path: &str) -> Result<Copy, Fault> {
+    match copy::open(rt, path) {
+        Ok(conn) => Ok(conn),
+        Err(error) => Err(Fault::Sql(error)),
+    }
 }
 
 /// What the copy of a store keeps.
 fn read_copy(rt: &HostRuntime, path: &str) -> Result<Blobs, Fault> {
-    let mut conn = sql(copy::open(rt, path))?;
-    let found = found_in(&mut conn)?;
-    let kept = kept_of(rt.alloc(), &mut conn, found)?;
-    Ok(kept.into_blobs())
+    let mut conn = connect_copy(rt, path)?;
+    let content = content_in(rt.alloc(), &mut conn)?;
+    Ok(content.kept.into_blobs())
 }
 
 /// Whether a store that was refused so stands where nothing can be written, since the file system is full or read-only.
@@ -134,13 +197,18 @@ fn loses_hash(old: &[Bytes], new: &[Bytes]) -> bool {
     false
 }
 
+/// Writes these blobs over what a store holds, in one transaction, and closes it.
+fn replace_and_close(mut conn: Open, content: &Content, blobs: &[Bytes]) -> Result<(), Fault> {
+    replace(&mut conn, content, blobs)?;
+    sql(conn.close())
+}
+
 /// Makes a store of these blobs.
 fn make(rt: &HostRuntime, path: &str, blobs: &[Bytes]) -> Result<(), Fault> {
     file::clear(rt, path).map_err(Fault::Io)?;
     file::create(rt, path).map_err(Fault::Io)?;
-    let mut conn = sql(Connection::open(rt, path))?;
-    sql(table::create(&mut conn, blobs))?;
-    sql(conn.close())
+    let conn = connect(rt, path)?;
+    replace_and_close(conn, &Content::nothing(rt.alloc()), blobs)
 }
 
 /// Makes a store of these blobs and puts it in the place of the one that stands there, so that nothing of that is left.
@@ -153,35 +221,28 @@ fn write_anew(rt: &HostRuntime, path: &str, blobs: &[Bytes]) -> Result<(), Fault
     file::replace(rt, made.as_str(), path).map_err(Fault::Io)
 }
 
-/// Writes what changed, in one transaction; where nothing did, nothing is written.
-fn change(conn: &mut Open, found: Found, kept: &Kept, blobs: &Blobs) -> Result<(), Fault> {
-    if found != Found::Nothing && kept.blobs == *blobs {
-        return Ok(());
-    }
-    sql(table::replace(conn, found, kept, blobs.items()))
-}
-
 /// Closes a store, and writes it anew.
 fn close_and_write(rt: &HostRuntime, path: &str, conn: Open, blobs: &[Bytes]) -> Result<(), Fault> {
     sql(conn.close())?;
     write_anew(rt, path, blobs)
 }
 
-/// Writes what changed, and closes the store.
-fn change_and_close(mut conn: Open, found: Found, kept: &Kept, blobs: &Blobs) -> Result<(), Fault> {
-    change(&mut conn, found, kept, blobs)?;
-    sql(conn.close())
+/// Writes what changed, and closes the store; where nothing did, nothing is written.
+fn change_and_close(conn: Open, content: &Content, blobs: &Blobs) -> Result<(), Fault> {
+    if content.found != Found::Nothing && content.kept.blobs == *blobs {
+        return sql(conn.close());
+    }
+    replace_and_close(conn, content, blobs.items())
 }
 
 /// Keeps these blobs in place of all others. Where a hash is kept no more the file is written anew, since SQLite leaves old
 /// bodies in pages that it uses no more.
 fn write(rt: &HostRuntime, path: &str, blobs: &Blobs) -> Result<(), Fault> {
-    let (mut conn, found) = open(rt, path)?;
-    let kept = kept_of(rt.alloc(), &mut conn, found)?;
-    if loses_hash(kept.blobs.items(), blobs.items()) {
+    let (conn, content) = open(rt, path)?;
+    if loses_hash(content.kept.blobs.items(), blobs.items()) {
         close_and_write(rt, path, conn, blobs.items())
     } else {
-        change_and_close(conn, found, &kept, blobs)
+        change_and_close(conn, &content, blobs)
     }
 }
 

@@ -96,16 +96,29 @@ fn is_at(row: &Row, place: usize) -> Result<bool, Error> {
     Ok(number == number_of(place)?)
 }
 
+/// Puts the blob of a row behind those that are kept.
+fn take(kept: &mut Kept, alloc: Global, row: &Row, place: usize) -> Result<(), Error> {
+    kept.are_in_place = kept.are_in_place && is_at(row, place)?;
+    push(&mut kept.blobs, body_of(alloc, row)?)
+}
+
+fn take_all(kept: &mut Kept, alloc: Global, rows: &[Row]) -> Result<(), Error> {
+    for place in 0..rows.len() {
+        take(kept, alloc, &rows[place], place)?;
+    }
+    Ok(())
+}
+
+fn kept_of(alloc: Global, rows: &[Row]) -> Result<Kept, Error> {
+    let mut kept = Kept::nothing(alloc);
+    take_all(&mut kept, alloc, rows)?;
+    Ok(kept)
+}
+
 /// What the table keeps.
 pub fn kept_in<S: Alter>(alloc: Global, conn: &mut Connection<S>) -> Result<Kept, Error> {
     let rows = conn.query_all("SELECT place, body FROM kept ORDER BY place", &[])?;
-    let mut kept = Kept::nothing(alloc);
-    for place in 0..rows.len() {
-        let row = &rows[place];
-        kept.are_in_place = kept.are_in_place && is_at(row, place)?;
-        push(&mut kept.blobs, body_of(alloc, row)?)?;
-    }
-    Ok(kept)
+    kept_of(alloc, rows.as_slice())
 }
 
 fn put<S: Alter>(tx: &mut Transaction<'_, S>, place: usize, body: &[u8]) -> Result<(), Error> {
@@ -117,16 +130,26 @@ fn put<S: Alter>(tx: &mut Transaction<'_, S>, place: usize, body: &[u8]) -> Resu
     Ok(())
 }
 
-/// Writes the blobs that are not at their places yet.
+/// Writes a blob that is not at its place yet.
+fn put_if_new<S: Alter>(
+    tx: &mut Transaction<'_, S>,
+    old: &[Bytes],
+    place: usize,
+    blob: &Bytes,
+) -> Result<(), Error> {
+    if old.get(place) == Some(blob) {
+        return Ok(());
+    }
+    put(tx, place, blob.bytes())
+}
+
 fn put_changed<S: Alter>(
     tx: &mut Transaction<'_, S>,
     old: &[Bytes],
     blobs: &[Bytes],
 ) -> Result<(), Error> {
     for place in 0..blobs.len() {
-        if old.get(place) != Some(&blobs[place]) {
-            put(tx, place, blobs[place].bytes())?;
-        }
+        put_if_new(tx, old, place, &blobs[place])?;
     }
     Ok(())
 }
@@ -151,31 +174,38 @@ fn change<S: Alter>(
     Ok(())
 }
 
-/// Begins a transaction, makes room by a statement, fills the table and commits. Without a commit nothing is changed; one
-/// that failed may have been made.
-fn fill<S: Alter>(conn: &mut Connection<S>, first: &str, blobs: &[Bytes]) -> Result<(), Error> {
-    if !conn.is_autocommit() {
-        return Err(IN_TRANSACTION);
+/// Makes room by a statement, where one is given, and then turns the table, which keeps the old blobs at their places, into one of
+/// the new.
+fn fill<S: Alter>(
+    tx: &mut Transaction<'_, S>,
+    first: Option<&str>,
+    old: &[Bytes],
+    blobs: &[Bytes],
+) -> Result<(), Error> {
+    if let Some(first) = first {
+        tx.execute(first, &[])?;
     }
-    let mut tx = conn.transaction();
-    tx.execute(first, &[])?;
-    change(&mut tx, &[], blobs)?;
-    tx.commit()
+    change(tx, old, blobs)
 }
 
-/// Likewise, over a table that keeps some blobs at their places.
-fn update<S: Alter>(conn: &mut Connection<S>, old: &[Bytes], blobs: &[Bytes]) -> Result<(), Error> {
+/// Likewise, in a transaction of its own. Without a commit nothing is changed; one that failed may have been made.
+fn update<S: Alter>(
+    conn: &mut Connection<S>,
+    first: Option<&str>,
+    old: &[Bytes],
+    blobs: &[Bytes],
+) -> Result<(), Error> {
     if !conn.is_autocommit() {
         return Err(IN_TRANSACTION);
     }
     let mut tx = conn.transaction();
-    change(&mut tx, old, blobs)?;
+    fill(&mut tx, first, old, blobs)?;
     tx.commit()
 }
 
 /// Makes the table, with these blobs.
-pub fn create<S: Alter>(conn: &mut Connection<S>, blobs: &[Bytes]) -> Result<(), Error> {
-    fill(conn, CREATE, blobs)
+fn create<S: Alter>(conn: &mut Connection<S>, blobs: &[Bytes]) -> Result<(), Error> {
+    update(conn, Some(CREATE), &[], blobs)
 }
 
 /// The table holds these blobs now and no others, by one transaction; it is made where there is none. What it kept already is
@@ -188,8 +218,8 @@ pub fn replace<S: Alter>(
 ) -> Result<(), Error> {
     match found {
         Found::Nothing => create(conn, blobs),
-        Found::Table if kept.are_in_place => update(conn, kept.blobs.items(), blobs),
-        Found::Table => fill(conn, "DELETE FROM kept", blobs),
+        Found::Table if kept.are_in_place => update(conn, None, kept.blobs.items(), blobs),
+        Found::Table => update(conn, Some("DELETE FROM kept"), &[], blobs),
         Found::Other => Err(Error::SqliteFailure(ErrorCode::NotADatabase)),
     }
 }
