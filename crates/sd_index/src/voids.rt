@@ -17,6 +17,10 @@ pub type Names = IndexMap<Text, u64, Primed>;
 fn bound_at(names: &Names, name: &Text) -> u64
     ensures { result ≡ voids.bound_at names.now.entries name.now }
 {
+    // No name is hashed where none was invalidated.
+    if names.is_empty() {
+        return 0;
+    }
     match names.get(name) {
         Some(number) => *number,
         None => 0,

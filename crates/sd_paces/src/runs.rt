@@ -7,7 +7,7 @@ use crate::world::{rows, settings};
 use sd_base::Memory;
 use sd_core::Core;
 use sd_pieces::{cut, read_number};
-use sd_rules::{Event, Reply};
+use sd_rules::{Event, Journal, Reply};
 use std::alloc::Global;
 use std::time::Instant;
 
@@ -64,15 +64,38 @@ fn make(kind: Kind, core: &mut Core, events: Vec<Event>) -> u64 {
     wanted
 }
 
-fn forget(core: &mut Core) -> Result<u64, Memory> {
-    let dropped = core.forget()?;
-    Ok(dropped.len() as u64)
+/// What steps or a forget came to.
+struct Done {
+    wanted: u64,
+    /// The entries that were handed back. They are let go once the time was taken, as the daemon lets them go once it has given the turn
+    /// back.
+    dropped: Journal,
 }
 
-fn work(kind: Kind, core: &mut Core, events: Vec<Event>) -> Result<u64, Memory> {
+impl Drop for Done {
+    fn drop(self) {
+        let Done {
+            wanted: _,
+            dropped: _,
+        } = self;
+    }
+}
+
+fn forget(core: &mut Core) -> Result<Done, Memory> {
+    let dropped = core.forget()?;
+    Ok(Done {
+        wanted: dropped.len() as u64,
+        dropped,
+    })
+}
+
+fn work(alloc: Global, kind: Kind, core: &mut Core, events: Vec<Event>) -> Result<Done, Memory> {
     match kind {
         Kind::Forget => forget(core),
-        _ => Ok(make(kind, core, events)),
+        _ => Ok(Done {
+            wanted: make(kind, core, events),
+            dropped: Journal::new(alloc),
+        }),
     }
 }
 
@@ -96,10 +119,10 @@ fn run(
     let Ok(begun) = Instant::now(rt) else {
         return Ok(None);
     };
-    let wanted = work(kind, &mut core, events)?;
+    let done = work(alloc, kind, &mut core, events)?;
     let time = nanoseconds(rt, &begun);
     Ok(Some(Came {
-        wanted,
+        wanted: done.wanted,
         entries: core.journal().len() as u64,
         nanoseconds: time / u64::from(steps.max(1)),
     }))
