@@ -195,6 +195,24 @@ impl<T: Field> Field for Items<T> {
     }
 }
 
+/// One field behind another. More than two are pairs in pairs.
+impl<A: Field, B: Field> Field for (A, B) {
+    ghost spelled = { λ pair. A.spelled pair.0 ++ B.spelled pair.1 };
+
+    ghost at = { reading.pair_at A.at B.at };
+
+    fn spell(&self, out: &mut Vec<u8>) -> Result<(), Memory> {
+        self.0.spell(out)?;
+        self.1.spell(out)
+    }
+
+    fn read(alloc: Global, bytes: &[u8]) -> Result<((A, B), &[u8]), FieldFault> {
+        let (first, rest) = A::read(alloc, bytes)?;
+        let (second, rest) = B::read(alloc, rest)?;
+        Ok(((first, second), rest))
+    }
+}
+
 /// The items one behind another.
 fn push_items<T: Field>(out: &mut Vec<u8>, items: &[T]) -> Result<(), Memory>
     ensures { OnOk result (out.new.items ≡ out.old.items ++ flat_map T.spelled items.now) }

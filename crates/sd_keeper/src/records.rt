@@ -25,13 +25,7 @@ impl Field for User {
 
     #[tactic(auto, unfolding(crate::specs::Reading::user_at))]
     fn read(alloc: Global, bytes: &[u8]) -> Result<(User, &[u8]), FieldFault> {
-        let (dn, rest) = Field::read(alloc, bytes)?;
-        let (name, rest) = Field::read(alloc, rest)?;
-        let (uid, rest) = Field::read(alloc, rest)?;
-        let (gid, rest) = Field::read(alloc, rest)?;
-        let (gecos, rest) = Field::read(alloc, rest)?;
-        let (home, rest) = Field::read(alloc, rest)?;
-        let (shell, rest) = Field::read(alloc, rest)?;
+        let ((dn, (name, (uid, (gid, (gecos, (home, shell)))))), rest) = Field::read(alloc, bytes)?;
         let user = User {
             dn,
             name,
@@ -68,10 +62,7 @@ impl Field for Group {
 
     #[tactic(auto, unfolding(crate::specs::Reading::group_at))]
     fn read(alloc: Global, bytes: &[u8]) -> Result<(Group, &[u8]), FieldFault> {
-        let (dn, rest) = Field::read(alloc, bytes)?;
-        let (name, rest) = Field::read(alloc, rest)?;
-        let (gid, rest) = Field::read(alloc, rest)?;
-        let (members, rest) = Field::read(alloc, rest)?;
+        let ((dn, (name, (gid, members))), rest) = Field::read(alloc, bytes)?;
         let group = Group {
             dn,
             name,
@@ -94,8 +85,7 @@ impl Field for GroupRef {
 
     #[tactic(auto, unfolding(crate::specs::Reading::group_ref_at))]
     fn read(alloc: Global, bytes: &[u8]) -> Result<(GroupRef, &[u8]), FieldFault> {
-        let (name, rest) = Field::read(alloc, bytes)?;
-        let (gid, rest) = Field::read(alloc, rest)?;
+        let ((name, gid), rest) = Field::read(alloc, bytes)?;
         Ok((GroupRef { name, gid }, rest))
     }
 }
@@ -112,8 +102,7 @@ impl Field for Groups {
 
     #[tactic(auto, unfolding(crate::specs::Reading::groups_at))]
     fn read(alloc: Global, bytes: &[u8]) -> Result<(Groups, &[u8]), FieldFault> {
-        let (user, rest) = Field::read(alloc, bytes)?;
-        let (groups, rest) = Field::read(alloc, rest)?;
+        let ((user, groups), rest) = Field::read(alloc, bytes)?;
         Ok((Groups { user, groups }, rest))
     }
 }
@@ -130,8 +119,7 @@ impl Field for Host {
 
     #[tactic(auto, unfolding(crate::specs::Reading::host_at))]
     fn read(alloc: Global, bytes: &[u8]) -> Result<(Host, &[u8]), FieldFault> {
-        let (name, rest) = Field::read(alloc, bytes)?;
-        let (groups, rest) = Field::read(alloc, rest)?;
+        let ((name, groups), rest) = Field::read(alloc, bytes)?;
         Ok((Host { name, groups }, rest))
     }
 }
@@ -149,9 +137,7 @@ impl Field for Element {
 
     #[tactic(auto, unfolding(crate::specs::Reading::element_at))]
     fn read(alloc: Global, bytes: &[u8]) -> Result<(Element, &[u8]), FieldFault> {
-        let (all, rest) = Field::read(alloc, bytes)?;
-        let (names, rest) = Field::read(alloc, rest)?;
-        let (groups, rest) = Field::read(alloc, rest)?;
+        let ((all, (names, groups)), rest) = Field::read(alloc, bytes)?;
         Ok((Element { all, names, groups }, rest))
     }
 }
@@ -171,11 +157,7 @@ impl Field for Rule {
 
     #[tactic(auto, unfolding(crate::specs::Reading::rule_at))]
     fn read(alloc: Global, bytes: &[u8]) -> Result<(Rule, &[u8]), FieldFault> {
-        let (name, rest) = Field::read(alloc, bytes)?;
-        let (enabled, rest) = Field::read(alloc, rest)?;
-        let (users, rest) = Field::read(alloc, rest)?;
-        let (hosts, rest) = Field::read(alloc, rest)?;
-        let (services, rest) = Field::read(alloc, rest)?;
+        let ((name, (enabled, (users, (hosts, services)))), rest) = Field::read(alloc, bytes)?;
         let rule = Rule {
             name,
             enabled,
@@ -199,8 +181,7 @@ impl Field for Service {
 
     #[tactic(auto, unfolding(crate::specs::Reading::service_at))]
     fn read(alloc: Global, bytes: &[u8]) -> Result<(Service, &[u8]), FieldFault> {
-        let (name, rest) = Field::read(alloc, bytes)?;
-        let (groups, rest) = Field::read(alloc, rest)?;
+        let ((name, groups), rest) = Field::read(alloc, bytes)?;
         Ok((Service { name, groups }, rest))
     }
 }
@@ -217,8 +198,7 @@ impl Field for RuleBook {
 
     #[tactic(auto, unfolding(crate::specs::Reading::book_at))]
     fn read(alloc: Global, bytes: &[u8]) -> Result<(RuleBook, &[u8]), FieldFault> {
-        let (rules, rest) = Field::read(alloc, bytes)?;
-        let (services, rest) = Field::read(alloc, rest)?;
+        let ((rules, services), rest) = Field::read(alloc, bytes)?;
         Ok((RuleBook { rules, services }, rest))
     }
 }

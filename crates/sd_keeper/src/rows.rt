@@ -126,9 +126,7 @@ pub fn write_row(alloc: Global, row: &Row) -> Result<Bytes, Memory>
 fn read_head(alloc: Global, bytes: &[u8]) -> Result<(Row, &[u8]), FieldFault>
     ensures { Gives (λ x. (x.0, x.1.now)) result (reading.head_at bytes.now) }
 {
-    let (version, rest) = Field::read(alloc, bytes)?;
-    let (next, rest) = Field::read(alloc, rest)?;
-    let (moment, rest) = Field::read(alloc, rest)?;
+    let ((version, (next, moment)), rest) = Field::read(alloc, bytes)?;
     Ok((Row::Head(version, next, moment), rest))
 }
 
@@ -136,11 +134,7 @@ fn read_head(alloc: Global, bytes: &[u8]) -> Result<(Row, &[u8]), FieldFault>
 fn read_answer(alloc: Global, bytes: &[u8]) -> Result<(Row, &[u8]), FieldFault>
     ensures { Gives (λ x. (x.0, x.1.now)) result (reading.answer_row_at bytes.now) }
 {
-    let (number, rest) = Field::read(alloc, bytes)?;
-    let (moment, rest) = Field::read(alloc, rest)?;
-    let (key, rest) = Field::read(alloc, rest)?;
-    let (answered, rest) = Field::read(alloc, rest)?;
-    let (voided, rest) = Field::read(alloc, rest)?;
+    let ((number, (moment, (key, (answered, voided)))), rest) = Field::read(alloc, bytes)?;
     Ok((Row::Answer(number, moment, key, answered, voided), rest))
 }
 
@@ -148,10 +142,7 @@ fn read_answer(alloc: Global, bytes: &[u8]) -> Result<(Row, &[u8]), FieldFault>
 fn read_wrong(alloc: Global, bytes: &[u8]) -> Result<(Row, &[u8]), FieldFault>
     ensures { Gives (λ x. (x.0, x.1.now)) result (reading.wrong_at bytes.now) }
 {
-    let (number, rest) = Field::read(alloc, bytes)?;
-    let (moment, rest) = Field::read(alloc, rest)?;
-    let (user, rest) = Field::read(alloc, rest)?;
-    let (count, rest) = Field::read(alloc, rest)?;
+    let ((number, (moment, (user, count))), rest) = Field::read(alloc, bytes)?;
     Ok((Row::Wrong(number, moment, user, count), rest))
 }
 
@@ -159,9 +150,7 @@ fn read_wrong(alloc: Global, bytes: &[u8]) -> Result<(Row, &[u8]), FieldFault>
 fn read_fall(alloc: Global, bytes: &[u8]) -> Result<(Row, &[u8]), FieldFault>
     ensures { Gives (λ x. (x.0, x.1.now)) result (reading.fall_at bytes.now) }
 {
-    let (number, rest) = Field::read(alloc, bytes)?;
-    let (moment, rest) = Field::read(alloc, rest)?;
-    let (server, rest) = Field::read(alloc, rest)?;
+    let ((number, (moment, server)), rest) = Field::read(alloc, bytes)?;
     Ok((Row::Fall(number, moment, server), rest))
 }
 
@@ -169,9 +158,7 @@ fn read_fall(alloc: Global, bytes: &[u8]) -> Result<(Row, &[u8]), FieldFault>
 fn read_online(alloc: Global, bytes: &[u8]) -> Result<(Row, &[u8]), FieldFault>
     ensures { Gives (λ x. (x.0, x.1.now)) result (reading.online_at bytes.now) }
 {
-    let (number, rest) = Field::read(alloc, bytes)?;
-    let (moment, rest) = Field::read(alloc, rest)?;
-    let (user, rest) = Field::read(alloc, rest)?;
+    let ((number, (moment, user)), rest) = Field::read(alloc, bytes)?;
     Ok((Row::Online(number, moment, user), rest))
 }
 
@@ -222,10 +209,7 @@ struct Hashed {
 fn read_hashed(alloc: Global, bytes: &[u8]) -> Result<(Hashed, &[u8]), FieldFault>
     ensures { Gives (λ x. ((x.0.number, (x.0.moment, (x.0.user, x.0.text))), x.1.now)) result (reading.hashed_at bytes.now) }
 {
-    let (number, rest) = Field::read(alloc, bytes)?;
-    let (moment, rest) = Field::read(alloc, rest)?;
-    let (user, rest) = Field::read(alloc, rest)?;
-    let (text, rest) = Field::read(alloc, rest)?;
+    let ((number, (moment, (user, text))), rest) = Field::read(alloc, bytes)?;
     let hashed = Hashed {
         number,
         moment,

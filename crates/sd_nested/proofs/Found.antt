@@ -9,7 +9,7 @@ use Rattle.sd_rules.specs.declared.records.GroupRef.{GroupRef}
 use Rattle.sd_nested.specs.Named.{user_names, group_ref, group_refs, group_values}
 use Rattle.sd_nested.specs.Order.{AreInOrder, in_order, names_of, AreRefsInOrder, refs_in_order}
 use Rattle.sd_nested.specs.Paths.{placed_in, at_or_under, reached, holding, members_of, groups_of_user}
-use Rattle.sd_nested.specs.Rounds.{Rounds, rounds, beginning, member_way, member_start, member_reads, first_values, new_among, dns_of, holder_way}
+use Rattle.sd_nested.specs.Rounds.{Rounds, rounds, beginning, member_way, member_start, member_reads, first_values, new_among, dns_of, holder_way, holder_questions}
 use Rattle.sd_nested.specs.declared.searcher.Stop.{Stop}
 use Rattle.sd_nested.specs.declared.rounds.Direction.TheVariants as directions
 use Rattle.sd_nested.specs.Searches.{Exchange, entry_at}
@@ -39,16 +39,14 @@ groups_found told base level dn kept groups d k g =
 
 -- ---- what the code begins with
 
-pub starts_so : (own base : List (List Pair)) (group : DirEntry) (none values onward first : List (List ℕ)) (no_dns seen : List (List (List Pair)))
-    → own ≡ base → none ≡ [] → values ≡ none ++ group_values group → onward ≡ values → no_dns ≡ [] → first ≡ new_among (λ dn. ends_with dn own) no_dns onward → seen ≡ no_dns ++ dns_of first
+pub starts_so : (own base : List (List Pair)) (group : DirEntry) (first : List (List ℕ)) (no_dns seen : List (List (List Pair)))
+    → own ≡ base → no_dns ≡ [] → first ≡ new_among (λ dn. ends_with dn own) no_dns (group_values group) → seen ≡ no_dns ++ dns_of first
     → beginning seen first ≡ member_start base group
-starts_so own base group none values onward first no_dns seen o n v w d f s =
-    let texts : onward ≡ group_values group = w ∙ (v ∙ ap (λ (x : List (List ℕ)). x ++ group_values group) n) in
+starts_so own base group first no_dns seen o d f s =
     let due : first ≡ first_values base group =
     f
-    ∙ (ap (λ (x : List (List Pair)). new_among (λ dn. ends_with dn x) no_dns onward) o
-    ∙ (ap (λ (x : List (List (List Pair))). new_among (λ dn. ends_with dn base) x onward) d
-    ∙ ap (λ (x : List (List ℕ)). new_among (λ dn. ends_with dn base) [] x) texts)) in
+    ∙ (ap (λ (x : List (List Pair)). new_among (λ dn. ends_with dn x) no_dns (group_values group)) o
+    ∙ ap (λ (x : List (List (List Pair))). new_among (λ dn. ends_with dn base) x (group_values group)) d) in
     let met : seen ≡ dns_of (first_values base group) = s ∙ (ap (λ (x : List (List (List Pair))). x ++ dns_of first) d ∙ ap dns_of due) in
     ap (λ (x : List (List (List Pair))). beginning x first) met ∙ ap (λ (x : List (List ℕ)). beginning (dns_of (first_values base group)) x) due
 
@@ -71,3 +69,10 @@ pub user_start : (seen : List (List (List Pair))) (none first : List (List ℕ))
 user_start seen none first copy dn s n f c =
     ap (λ (x : List (List (List Pair))). beginning x first) s
     ∙ ap (λ (x : List (List ℕ)). beginning [] x) (f ∙ (ap (λ (x : List (List ℕ)). x ++ copy ∷ []) n ∙ ap (λ (x : List ℕ). x ∷ []) c))
+
+pub holders_so : {S : Type 0} (went : S → Exchange → S → Type 0) (a b : S) (stop : Option Stop) (tells : List DirEntry → Type 0) (place : List ℕ) (level : ℕ) (start : Rounds) (dn : List ℕ)
+    → start ≡ beginning [] (dn ∷ [])
+    → ExchangedOver went a b stop tells (λ told. map (question_by directions.Holders) (rounds (way_by told place directions.Holders) start (suc level)).asked)
+    → ExchangedOver went a b stop tells (λ told. holder_questions told place level dn)
+holders_so went a b stop tells place level start dn s h =
+    subst (λ (x : Rounds). ExchangedOver went a b stop tells (λ told. map (question_by directions.Holders) (rounds (way_by told place directions.Holders) x (suc level)).asked)) s h

@@ -1,21 +1,39 @@
 //! Members of a group, and groups of a user.
-ghost use Rattle.std.specs.Prelude.{◌≡◌, ℕ, List, true, IfOk, Some};
+ghost use Rattle.std.specs.Prelude.{◌≡◌, ◌++◌, ℕ, List, true, IfOk, Some};
 ghost use Rattle.sd_ldap.specs.declared.entry.DirEntry.{DirEntry};
 ghost use Rattle.sd_dn.specs.Reading.{is_dn};
 ghost use Rattle.sd_nested.specs.Paths.{at_or_under, members_of, groups_of_user};
-ghost use Rattle.sd_nested.specs.Rounds.{member_questions, holder_questions};
+ghost use Rattle.sd_nested.specs.Named.{group_values};
+ghost use Rattle.sd_nested.specs.Directions.{admits_by};
+ghost use Rattle.sd_nested.specs.Rounds.{member_questions, holder_questions, new_among, dns_of};
 ghost use Rattle.sd_nested.specs.Asking.{ExchangedOver, stop_of};
 
 use crate::named::push_group_values;
 use crate::order::{names_in_order, refs_in_order};
 use crate::rounds::{Direction, go_rounds, mark_new};
 use crate::searcher::{Searcher, Stop};
-use sd_base::{Copied, Texts};
+use sd_base::{Copied, Memory, Texts};
 use sd_dn::Dn;
 use sd_ldap::DirEntry;
 use sd_names::DnSet;
 use sd_rules::GroupRefs;
 use std::alloc::Global;
+
+/// The member values of a group whose DNs are admitted and new; these DNs are marked.
+fn mark_values(
+    alloc: Global,
+    direction: &Direction,
+    seen: &mut DnSet,
+    group: &DirEntry,
+) -> Result<Texts, Memory>
+    ensures due { IfOk result (λ due. due ≡ new_among (admits_by direction.now) seen.old (group_values group.now)) }
+    ensures seen { IfOk result (λ due. seen.new ≡ seen.old ++ dns_of due) }
+{
+    let mut values = Texts::new(alloc);
+    push_group_values(&mut values, group)?;
+    let due = mark_new(alloc, direction, seen, values.items())?;
+    Ok(due)
+}
 
 /// The names of the users that are members of a group by paths of at most `level + 1` steps, in byte order,
 /// each once. It takes at most `level + 1` rounds of reads.
@@ -33,10 +51,8 @@ pub fn members<S: Searcher>(
     ensures members { (told : List DirEntry) → S.tells searcher.old told → IfOk result (λ names. names ≡ members_of told base.now level group.now) }
 {
     let direction = Direction::Members(base.copy()?);
-    let mut values = Texts::new(alloc);
-    push_group_values(&mut values, group)?;
     let mut seen = DnSet::new(alloc);
-    let first = mark_new(alloc, &direction, &mut seen, values.items())?;
+    let first = mark_values(alloc, &direction, &mut seen, group)?;
     let kept = go_rounds(alloc, searcher, &direction, seen, first, level)?;
     let names = names_in_order(alloc, kept.items())?;
     Ok(names)

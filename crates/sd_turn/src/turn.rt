@@ -190,14 +190,17 @@ impl<V: Chronicle> Turn<V> {
             self.table.shared.park_timeout(rt, TURN, TAKEN as u32, nap);
             return tries + 1;
         }
-        self.sleep(rt);
+        self.sleep(rt, &self.waiting, TURN, TAKEN as u32);
         0
     }
 
-    fn sleep<R: Wait>(&self, rt: &R) {
-        self.waiting.fetch_add(1, Ordering::SeqCst);
-        self.table.shared.park(rt, TURN, TAKEN as u32);
-        self.waiting.fetch_sub(1, Ordering::SeqCst);
+    // Sleeps, counted among these sleepers, while the word ends in these bits.
+    fn sleep<R: Wait>(&self, rt: &R, sleepers: &AtomicU64, word: usize, bits: u32)
+        requires { word < 2 }
+    {
+        sleepers.fetch_add(1, Ordering::SeqCst);
+        self.table.shared.park(rt, word, bits);
+        sleepers.fetch_sub(1, Ordering::SeqCst);
     }
 
     // Only reads the turn word, so that the holder's cache line is left alone.
@@ -339,11 +342,7 @@ impl<V: Chronicle> Turn<V> {
             if count != behind {
                 return;
             }
-            self.resting.fetch_add(1, Ordering::SeqCst);
-            self.table
-                .shared
-                .park(rt, COUNT, (count % (1 << 32)) as u32);
-            self.resting.fetch_sub(1, Ordering::SeqCst);
+            self.sleep(rt, &self.resting, COUNT, (count % (1 << 32)) as u32);
         }
         unreachable!()
     }

@@ -47,3 +47,9 @@ returns-then-len-gt-LIMIT-clause-reply g c =
     let many : 67108864 < length c.receive.new.self = omega (arith, c.len.ensures, c.if-len-gt-LIMIT.true) in
     let full : length c.loop-found.buffer ≡ 67108864 = full_by (length c.loop-found.buffer) (length c.receive.new.self) c.loop-found.invariant.limited c.in_ok-receive.ensures.limited many in
     decided_flood c.args.request c.args.id c.args.at.now c.loop-found.buffer c.receive.new.self (gained c.loop-found.buffer c.receive.new.self) full c.receive.ensures.came.grown many none
+
+pub returns-in-Nothing-clause-came : goal.returns-in-Nothing-clause-came
+returns-in-Nothing-clause-came g c = comes_both _ _ _ _ _ _ _ _ _ c.loop-found.invariant.came c.receive.ensures.came
+
+pub returns-then-len-gt-LIMIT-clause-came : goal.returns-then-len-gt-LIMIT-clause-came
+returns-then-len-gt-LIMIT-clause-came g c = comes_both _ _ _ _ _ _ _ _ _ c.loop-found.invariant.came c.receive.ensures.came

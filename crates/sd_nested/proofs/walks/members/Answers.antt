@@ -18,42 +18,42 @@ returns-in_err-first-clause-exchanged g c =
 pub returns-in_err-kept-clause-exchanged : goal.returns-in_err-kept-clause-exchanged
 returns-in_err-kept-clause-exchanged g c =
     let p = err_from_is_err_and c.from_residual-in_err-kept.result c.from_residual-in_err-kept.ensures.1 in
-    let start : beginning c.mark_new.new.seen c.in_ok-first.first ≡ member_start c.args.base.now c.args.group.now =
-    starts_so c.in_ok-copy.field-0 c.args.base.now c.args.group.now c.new-values.result c.push_group_values.new.values c.items.result.now c.in_ok-first.first c.new-seen.result c.mark_new.new.seen
-    c.in_ok-copy.ensures c.new-values.ensures c.in_ok-push_group_values.ensures c.items.ensures c.new-seen.ensures c.in_ok-first.ensures.due c.in_ok-first.ensures.seen in
+    let start : beginning c.mark_values.new.seen c.in_ok-first.first ≡ member_start c.args.base.now c.args.group.now =
+    starts_so c.in_ok-copy.field-0 c.args.base.now c.args.group.now c.in_ok-first.first c.new-seen.result c.mark_values.new.seen
+    c.in_ok-copy.ensures c.new-seen.ensures c.in_ok-first.ensures.due c.in_ok-first.ensures.seen in
     let stopped : ExchangedOver g.S.Searcher.went c.args.searcher.now c.go_rounds.new.searcher (Some c.in_err-kept.field-0.0) (g.S.Searcher.tells c.args.searcher.now) (λ told. map entry_at (member_reads told c.args.base.now c.args.level c.args.group.now)) =
     reads_so g.S.Searcher.went c.args.searcher.now c.go_rounds.new.searcher (Some c.in_err-kept.field-0.0) (g.S.Searcher.tells c.args.searcher.now) (g.S.Searcher.base c.args.searcher.now) c.args.level
-    c.in_ok-copy.field-0 c.args.base.now (beginning c.mark_new.new.seen c.in_ok-first.first) c.args.group.now c.in_ok-copy.ensures start c.in_err-kept.ensures.exchanged in
+    c.in_ok-copy.field-0 c.args.base.now (beginning c.mark_values.new.seen c.in_ok-first.first) c.args.group.now c.in_ok-copy.ensures start c.in_err-kept.ensures.exchanged in
     subst (λ (r : Result (List (List ℕ)) Stop). ExchangedOver g.S.Searcher.went c.args.searcher.now c.go_rounds.new.searcher (stop_of r) (g.S.Searcher.tells c.args.searcher.now) (λ told. map entry_at (member_reads told c.args.base.now c.args.level c.args.group.now)))
     (sym (p.1 ∙ ap (λ (s : Stop). Err s) p.2)) stopped
 
 pub returns-in_err-names-clause-exchanged : goal.returns-in_err-names-clause-exchanged
 returns-in_err-names-clause-exchanged g c =
     let p = err_from_is_err_and c.from_residual-in_err-names.result c.from_residual-in_err-names.ensures.1 in
-    let start : beginning c.mark_new.new.seen c.in_ok-first.first ≡ member_start c.args.base.now c.args.group.now =
-    starts_so c.in_ok-copy.field-0 c.args.base.now c.args.group.now c.new-values.result c.push_group_values.new.values c.items.result.now c.in_ok-first.first c.new-seen.result c.mark_new.new.seen
-    c.in_ok-copy.ensures c.new-values.ensures c.in_ok-push_group_values.ensures c.items.ensures c.new-seen.ensures c.in_ok-first.ensures.due c.in_ok-first.ensures.seen in
+    let start : beginning c.mark_values.new.seen c.in_ok-first.first ≡ member_start c.args.base.now c.args.group.now =
+    starts_so c.in_ok-copy.field-0 c.args.base.now c.args.group.now c.in_ok-first.first c.new-seen.result c.mark_values.new.seen
+    c.in_ok-copy.ensures c.new-seen.ensures c.in_ok-first.ensures.due c.in_ok-first.ensures.seen in
     let asked : ExchangedOver g.S.Searcher.went c.args.searcher.now c.go_rounds.new.searcher None (g.S.Searcher.tells c.args.searcher.now) (λ told. map entry_at (member_reads told c.args.base.now c.args.level c.args.group.now)) =
     reads_so g.S.Searcher.went c.args.searcher.now c.go_rounds.new.searcher None (g.S.Searcher.tells c.args.searcher.now) (g.S.Searcher.base c.args.searcher.now) c.args.level
-    c.in_ok-copy.field-0 c.args.base.now (beginning c.mark_new.new.seen c.in_ok-first.first) c.args.group.now c.in_ok-copy.ensures start c.in_ok-kept.ensures.exchanged in
+    c.in_ok-copy.field-0 c.args.base.now (beginning c.mark_values.new.seen c.in_ok-first.first) c.args.group.now c.in_ok-copy.ensures start c.in_ok-kept.ensures.exchanged in
     subst (λ (r : Result (List (List ℕ)) Stop). ExchangedOver g.S.Searcher.went c.args.searcher.now c.go_rounds.new.searcher (stop_of r) (g.S.Searcher.tells c.args.searcher.now) (λ told. map entry_at (member_reads told c.args.base.now c.args.level c.args.group.now)))
     (sym (p.1 ∙ ap (λ (s : Stop). Err s) p.2))
     (starved_after g.S.Searcher.went c.args.searcher.now c.go_rounds.new.searcher (g.S.Searcher.tells c.args.searcher.now) (λ told. map entry_at (member_reads told c.args.base.now c.args.level c.args.group.now)) asked)
 
 pub returns-clause-exchanged : goal.returns-clause-exchanged
 returns-clause-exchanged g c =
-    let start : beginning c.mark_new.new.seen c.in_ok-first.first ≡ member_start c.args.base.now c.args.group.now =
-    starts_so c.in_ok-copy.field-0 c.args.base.now c.args.group.now c.new-values.result c.push_group_values.new.values c.items.result.now c.in_ok-first.first c.new-seen.result c.mark_new.new.seen
-    c.in_ok-copy.ensures c.new-values.ensures c.in_ok-push_group_values.ensures c.items.ensures c.new-seen.ensures c.in_ok-first.ensures.due c.in_ok-first.ensures.seen in
+    let start : beginning c.mark_values.new.seen c.in_ok-first.first ≡ member_start c.args.base.now c.args.group.now =
+    starts_so c.in_ok-copy.field-0 c.args.base.now c.args.group.now c.in_ok-first.first c.new-seen.result c.mark_values.new.seen
+    c.in_ok-copy.ensures c.new-seen.ensures c.in_ok-first.ensures.due c.in_ok-first.ensures.seen in
     reads_so g.S.Searcher.went c.args.searcher.now c.go_rounds.new.searcher None (g.S.Searcher.tells c.args.searcher.now) (g.S.Searcher.base c.args.searcher.now) c.args.level
-    c.in_ok-copy.field-0 c.args.base.now (beginning c.mark_new.new.seen c.in_ok-first.first) c.args.group.now c.in_ok-copy.ensures start c.in_ok-kept.ensures.exchanged
+    c.in_ok-copy.field-0 c.args.base.now (beginning c.mark_values.new.seen c.in_ok-first.first) c.args.group.now c.in_ok-copy.ensures start c.in_ok-kept.ensures.exchanged
 
 pub returns-clause-members : goal.returns-clause-members
 returns-clause-members g c = λ told e.
-    let start : beginning c.mark_new.new.seen c.in_ok-first.first ≡ member_start c.args.base.now c.args.group.now =
-    starts_so c.in_ok-copy.field-0 c.args.base.now c.args.group.now c.new-values.result c.push_group_values.new.values c.items.result.now c.in_ok-first.first c.new-seen.result c.mark_new.new.seen
-    c.in_ok-copy.ensures c.new-values.ensures c.in_ok-push_group_values.ensures c.items.ensures c.new-seen.ensures c.in_ok-first.ensures.due c.in_ok-first.ensures.seen in
-    members_found told c.args.base.now c.args.level c.args.group.now c.items-2.result.now c.in_ok-names.names
-    (c.items-2.ensures ∙ kept_so told (g.S.Searcher.base c.args.searcher.now) c.args.level c.in_ok-copy.field-0 c.args.base.now (beginning c.mark_new.new.seen c.in_ok-first.first) c.args.group.now c.in_ok-kept.kept
+    let start : beginning c.mark_values.new.seen c.in_ok-first.first ≡ member_start c.args.base.now c.args.group.now =
+    starts_so c.in_ok-copy.field-0 c.args.base.now c.args.group.now c.in_ok-first.first c.new-seen.result c.mark_values.new.seen
+    c.in_ok-copy.ensures c.new-seen.ensures c.in_ok-first.ensures.due c.in_ok-first.ensures.seen in
+    members_found told c.args.base.now c.args.level c.args.group.now c.items.result.now c.in_ok-names.names
+    (c.items.ensures ∙ kept_so told (g.S.Searcher.base c.args.searcher.now) c.args.level c.in_ok-copy.field-0 c.args.base.now (beginning c.mark_values.new.seen c.in_ok-first.first) c.args.group.now c.in_ok-kept.kept
     c.in_ok-copy.ensures start (c.in_ok-kept.ensures.kept told e))
     c.in_ok-names.ensures

@@ -28,3 +28,12 @@ returns-in-Some-clause-came g c =
     c.in-Some.ensures.received
     c.in-Some.ensures.coming
     (ap (take (filled + c.in-Some.count)) held ∙ grown)
+
+pub returns-in-None-clause-came : goal.returns-in-None-clause-came
+returns-in-None-clause-came g c =
+    let filled = c.self.inside.filled in
+    let bytes = c.receive_behind.new.bytes in
+    let front : take filled bytes ≡ c.args.self.now = cc (c.receive_behind.ensures.front, c.deref_mut.ensures.value, c.make_room.ensures.kept, c.self.view_is) in
+    let size : length bytes ≡ c.make_room.new.bytes.len = cc (c.receive_behind.auto.bytes, c.deref_mut.ensures.value, c.make_room.new.bytes.ok.0) in
+    let held : (with_items c.make_room.new.bytes bytes).items ≡ bytes = with_items_is c.make_room.new.bytes bytes size in
+    comes_nothing _ _ _ _ _ _ c.in-None.ensures.received c.in-None.ensures.coming (ap (take filled) held ∙ front)
