@@ -1,12 +1,13 @@
 -- The entries that a forget keeps, one entry of the journal after another.
 use Rattle.std.proofs.Common.{◌≡◌, ℕ, ◌+◌, ◌<◌, ◌≤◌, Bool, true, false, cond, nat_lt, List, [], ◌∷◌, ◌++◌, reverse, length, get_or, take, refl, sym, ◌∙◌, ap, arith}
-use Rattle.std.proofs.lemmas.List.{reverse-append, take_more, take-take, length_push}
+use Rattle.std.proofs.lemmas.List.{reverse-append, take_more, length_push}
 use Rattle.sd_rules.specs.declared.replies.Entry.{Entry}
 use Rattle.sd_rules.specs.Needed.{is_needed, needed_among, forgotten_among}
 use Rattle.sd_index.specs.Entries.{falls, numbers_fall}
 use Rattle.sd_index.proofs.FallLaws.{head_below, tail_falls, fall_further, both_of_two, tests_less}
 use Rattle.sd_index.proofs.Halves.{numbers_before}
 use Rattle.sd_sieve.specs.Marks.{marks, MarkNeeded}
+use Rattle.sd_sieve.specs.Sifting.{SiftsAt}
 use Rattle.sd_sieve.proofs.MarkLaws.{needed_at}
 
 -- their numbers fall, too
@@ -77,41 +78,33 @@ put_many : (b : Bool) (xs : List Entry) (e : Entry) (count i : ℕ) → length x
 put_many true xs e count i h = let more = length_push xs e in omega (arith, more)
 put_many false xs e count i h = omega (arith, h)
 
--- what stands first stays where the entry at a place behind it is taken away
-front_stays : (left taken : List Entry) (count i : ℕ) → count ≤ i → take i taken ≡ take i left → take count taken ≡ take count left
-front_stays left taken count i few same =
-    sym (take-take count i taken few) ∙ ap (λ (xs : List Entry). take count xs) same ∙ take-take count i left few
-
-pub sifted_more : (whole left taken new kept longer : List Entry) (ms : List Bool) (count further i : ℕ) (e : Entry) (b d : Bool) → MarkNeeded whole ms → i < length whole
-    → IsSifted whole left kept count i → e ≡ get_or left i e → b ≡ get_or ms i d
-    → length taken ≡ length left → take i taken ≡ take i left → ((j : ℕ) (d : Entry) → i < j → get_or taken j d ≡ get_or left j d)
-    → longer ≡ cond b (kept ++ e ∷ []) kept → take further new ≡ cond b (take count taken) (take count taken ++ e ∷ []) → further ≡ cond b count (count + 1)
-    → length new ≡ length taken → ((j : ℕ) (d : Entry) → count < j → get_or new j d ≡ get_or taken j d)
+pub sifted_more : (whole left new kept longer : List Entry) (ms : List Bool) (count further i : ℕ) (e : Entry) (b d : Bool) → MarkNeeded whole ms → i < length whole
+    → IsSifted whole left kept count i → e ≡ get_or whole i e → b ≡ get_or ms i d → SiftsAt b i count further kept longer left new
     → IsSifted whole new longer further (i + 1)
-sifted_more whole left taken new kept longer ms count further i e b d marks lt s got mark long before behind put other further_is same rest =
-    let at : e ≡ get_or whole i e = got ∙ s.rest i e (omega arith) in
+sifted_more whole left new kept longer ms count further i e b d marks lt s at mark more_is =
     let is : is_needed (reverse whole) (reverse (take i whole)) e ≡ b = sym (mark ∙ needed_at whole ms i e d marks lt at) in
     let more = one_more whole i e lt at in
     let many : length kept + count ≡ i = s.many in
-    let few : count ≤ i = omega (arith, many) in
+    let same : get_or left i e ≡ e = s.rest i e (omega arith) ∙ sym at in
     let ys : List Entry = needed_among (reverse whole) (reverse (take i whole)) in
     let zs : List Entry = forgotten_among (reverse whole) (reverse (take i whole)) in
+    let put : longer ≡ cond b (kept ++ e ∷ []) kept = more_is.kept e ∙ ap (λ (x : Entry). cond b (kept ++ x ∷ []) kept) same in
     record {
-      long = same ∙ long ∙ s.long;
-      rest = λ j d h. rest j d (omega (arith, few, h)) ∙ behind j d (omega (arith, h)) ∙ s.rest j d (omega (arith, h));
+      long = more_is.long ∙ s.long;
+      rest = λ j d h. more_is.behind j d (omega (arith, h)) ∙ s.rest j d (omega (arith, h));
       kept =
           ap (λ (xs : List Entry). reverse xs) put
           ∙ put_kept b kept ys e s.kept
           ∙ ap (λ (c : Bool). cond c (e ∷ ys) ys) (sym is)
           ∙ sym (ap (λ (xs : List Entry). needed_among (reverse whole) xs) more);
       dropped =
-          ap (λ (xs : List Entry). reverse xs) other
-          ∙ ap (λ (xs : List Entry). reverse (cond b xs (xs ++ e ∷ []))) (front_stays left taken count i few before)
+          ap (λ (xs : List Entry). reverse xs) (more_is.front e)
+          ∙ ap (λ (x : Entry). reverse (cond b (take count left) (take count left ++ x ∷ []))) same
           ∙ put_dropped b (take count left) zs e s.dropped
           ∙ ap (λ (c : Bool). cond c zs (e ∷ zs)) (sym is)
           ∙ sym (ap (λ (xs : List Entry). forgotten_among (reverse whole) xs) more);
       many =
           ap (λ (xs : List Entry). length xs + further) put
-          ∙ ap (λ (n : ℕ). length (cond b (kept ++ e ∷ []) kept) + n) further_is
+          ∙ ap (λ (n : ℕ). length (cond b (kept ++ e ∷ []) kept) + n) more_is.many
           ∙ put_many b kept e count i many;
     }

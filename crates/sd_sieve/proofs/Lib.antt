@@ -1,5 +1,7 @@
 pub mod MarkLaws
 mod KeptLaws
+mod SiftLaws
+mod BriefLaws
 pub mod FindingLaws
 pub mod ServeLaws
 pub mod ReadLaws

@@ -3,7 +3,9 @@ use Rattle.std.proofs.Common.{◌≡◌, ℕ, ◌+◌, ◌-◌, ◌<◌, Bool, L
 use Rattle.std.proofs.lemmas.List.{reverse-append, length-reverse, take_more, take-append-drop, drop_at}
 use Rattle.sd_rules.specs.declared.replies.Entry.{Entry}
 use Rattle.sd_rules.specs.Needed.{is_newest_answer, is_looked_at, is_needed}
+use Rattle.sd_sieve.specs.Briefs.{brief_of, AreBriefs}
 use Rattle.sd_sieve.specs.Marks.{marks, MarkNewest, MarkLooked, MarkNeeded}
+use Rattle.sd_sieve.specs.declared.briefs.Brief.{Brief}
 
 -- a list from a place on, the last first
 rest_turned : {X : Type 0} (xs : List X) (i : ℕ) (d : X) → i < length xs → drop (length xs - (i + 1)) (reverse xs) ≡ get_or xs i d ∷ reverse (take i xs)
@@ -18,29 +20,29 @@ rest_turned {X} xs i d lt =
     ∙ drop_at newer (reverse (take (i + 1) xs)) (length xs - (i + 1)) long
     ∙ more
 
-module _ (test : List Entry → Entry → Bool) where
-  length_marks : (past : List Entry) → length (marks test past) ≡ length past
+module _ {X : Type 0} (rule : List Entry → Entry → X) where
+  length_marks : (past : List Entry) → length (marks rule past) ≡ length past
   length_marks [] = refl
   length_marks (e ∷ past) = ap suc (length_marks past)
 
-  drop_marks : (n : ℕ) (past : List Entry) → drop n (marks test past) ≡ marks test (drop n past)
+  drop_marks : (n : ℕ) (past : List Entry) → drop n (marks rule past) ≡ marks rule (drop n past)
   drop_marks zero past = refl
   drop_marks (suc n) [] = refl
   drop_marks (suc n) (e ∷ past) = drop_marks n past
 
-  as_many : (es : List Entry) (ms : List Bool) → reverse ms ≡ marks test (reverse es) → length ms ≡ length es
+  as_many : (es : List Entry) (ms : List X) → reverse ms ≡ marks rule (reverse es) → length ms ≡ length es
   as_many es ms h = sym (length-reverse ms) ∙ ap length h ∙ length_marks (reverse es) ∙ length-reverse es
 
-  mark_at : (es : List Entry) (ms : List Bool) (i : ℕ) (e : Entry) (d : Bool) → reverse ms ≡ marks test (reverse es) → i < length es → e ≡ get_or es i e
-      → get_or ms i d ≡ test (reverse (take i es)) e
+  mark_at : (es : List Entry) (ms : List X) (i : ℕ) (e : Entry) (d : X) → reverse ms ≡ marks rule (reverse es) → i < length es → e ≡ get_or es i e
+      → get_or ms i d ≡ rule (reverse (take i es)) e
   mark_at es ms i e d h lt at =
       let many : length ms ≡ length es = as_many es ms h in
       let n : ℕ = length es - (i + 1) in
-      ap (λ (l : List Bool). get_or l 0 d)
+      ap (λ (l : List X). get_or l 0 d)
       (sym (ap (λ (k : ℕ). drop (k - (i + 1)) (reverse ms)) (sym many) ∙ rest_turned ms i d (omega arith))
-      ∙ ap (λ (l : List Bool). drop n l) h
+      ∙ ap (λ (l : List X). drop n l) h
       ∙ drop_marks n (reverse es)
-      ∙ ap (λ (l : List Entry). marks test l) (rest_turned es i e lt ∙ ap (λ (x : Entry). x ∷ reverse (take i es)) (sym at)))
+      ∙ ap (λ (l : List Entry). marks rule l) (rest_turned es i e lt ∙ ap (λ (x : Entry). x ∷ reverse (take i es)) (sym at)))
 
 pub newest_at : (es : List Entry) (ms : List Bool) (i : ℕ) (e : Entry) (d : Bool) → MarkNewest es ms → i < length es → e ≡ get_or es i e
     → get_or ms i d ≡ is_newest_answer (reverse es) (reverse (take i es)) e
@@ -54,6 +56,9 @@ pub needed_at : (es : List Entry) (ms : List Bool) (i : ℕ) (e : Entry) (d : Bo
     → get_or ms i d ≡ is_needed (reverse es) (reverse (take i es)) e
 needed_at es ms i e d h lt at = mark_at (is_needed (reverse es)) es ms i e d h lt at
 
+pub brief_at : (es : List Entry) (bs : List Brief) (i : ℕ) (e : Entry) (d : Brief) → AreBriefs es bs → i < length es → e ≡ get_or es i e → get_or bs i d ≡ brief_of e
+brief_at es bs i e d h lt at = mark_at (λ (past : List Entry) (e : Entry). brief_of e) es bs i e d h lt at
+
 -- there are as many marks as entries
 pub newest_long : (es : List Entry) (ms : List Bool) → MarkNewest es ms → length ms ≡ length es
 newest_long es ms h = as_many (is_newest_answer (reverse es)) es ms h
@@ -63,3 +68,6 @@ looked_long es ms h = as_many (is_looked_at (reverse es)) es ms h
 
 pub needed_long : (es : List Entry) (ms : List Bool) → MarkNeeded es ms → length ms ≡ length es
 needed_long es ms h = as_many (is_needed (reverse es)) es ms h
+
+pub briefs_long : (es : List Entry) (bs : List Brief) → AreBriefs es bs → length bs ≡ length es
+briefs_long es bs h = as_many (λ (past : List Entry) (e : Entry). brief_of e) es bs h

@@ -7,6 +7,7 @@ use Rattle.sd_rules.specs.Requests.{is_open_request, waits_for, outcome_of}
 use Rattle.sd_rules.specs.Servers.{is_online}
 use Rattle.sd_rules.specs.Steps.{is_asking}
 use Rattle.sd_cache.specs.declared.kept.Newest.{Newest}
+use Rattle.sd_sieve.specs.Briefs.{AreBriefs}
 use Rattle.sd_sieve.specs.Covers.{HoldVoids, HoldCovered}
 use Rattle.sd_sieve.specs.Falls.{HoldFalls}
 use Rattle.sd_sieve.specs.Marks.{MarkNewest}
@@ -68,3 +69,4 @@ pub record IsFound (entries : List Entry) (f : Findings) : Type 0 where
   pub outage : f.walk.notes.outage ≡ last_outage (reverse entries)
   pub online : f.walk.notes.online ≡ last_where (λ (x : Entry). is_online x.event) (reverse entries)
   pub stop : f.walk.notes.stop ≡ last_where (λ (x : Entry). is_stop x.event) (reverse entries)
+  pub briefs : AreBriefs entries f.walk.briefs.items

@@ -4,8 +4,10 @@ pub mod Users
 pub mod Falls
 pub mod Outlines
 pub mod Covers
+pub mod Briefs
 pub mod Findings
 pub mod Notes
 pub mod Walks
 pub mod Readings
 pub mod Plans
+pub mod Sifting

@@ -1,11 +1,11 @@
--- Marks of entries, the newest first: whether each passes a test, which is told the entries before it.
+-- Marks of entries, the newest first: what is said of each by a rule, which is told the entries before it.
 use Rattle.std.specs.Prelude.{◌≡◌, Bool, List, [], ◌∷◌, reverse}
 use Rattle.sd_rules.specs.declared.replies.Entry.{Entry}
 use Rattle.sd_rules.specs.Needed.{is_newest_answer, is_looked_at, is_needed}
 
-abbrev pub marks : (List Entry → Entry → Bool) → List Entry → List Bool
-marks test [] = []
-marks test (e ∷ past) = test past e ∷ marks test past
+abbrev pub marks : {X : Type 0} → (List Entry → Entry → X) → List Entry → List X
+marks rule [] = []
+marks rule (e ∷ past) = rule past e ∷ marks rule past
 
 -- the marks of a journal's entries, the oldest first: of those that hold the newest answer of a key
 abbrev pub MarkNewest : List Entry → List Bool → Type 0

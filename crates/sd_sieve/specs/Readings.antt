@@ -38,11 +38,6 @@ reads_answer all n [] = false
 reads_answer all n (e ∷ past) =
     is_number n (only_if (is_looked_at all past e) (answer_read e.event e.reply)) || reads_answer all n past
 
--- the request of an answer that was replied Again
-abbrev pub request_again : Event → Reply → Option ℕ
-request_again (Answer request answered) reply = if is_again reply then Some request else None
-request_again _ reply = None
-
 -- an entry is the last answer to a request, where one is named, that was replied Again, and an answer to the request that is
 -- looked at is read with it
 abbrev pub is_again_read : List Entry → Entry → List Entry → Option ℕ → Bool

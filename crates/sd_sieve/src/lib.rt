@@ -1,7 +1,8 @@
-// A forget by the index of a journal: it goes over the entries a few times, and never over all of them for each.
+// A forget by the index of a journal: it reads most entries once, and never goes over all of them for each.
 #![tactic(auto)]
 
 pub mod answers;
+mod briefs;
 pub mod covers;
 pub mod findings;
 pub mod looked;

@@ -1,12 +1,14 @@
 // Which entries a later reply can look at for their own sake.
-ghost use Rattle.std.specs.Prelude.{◌≡◌, ◌<◌, List, length, reverse, take, slice_index_or, IfOk, None};
+ghost use Rattle.std.specs.Prelude.{◌≡◌, ◌<◌, List, true, length, reverse, take, slice_index_or, IfOk, None};
 ghost use Rattle.sd_rules.specs.declared.replies.Entry.{Entry};
 ghost use Rattle.sd_rules.specs.Needed as needed;
 ghost use Rattle.sd_needs.specs.Looks as looks;
+ghost use Rattle.sd_sieve.specs.Briefs as briefs;
 ghost use Rattle.sd_sieve.specs.Findings as findings;
 ghost use Rattle.sd_sieve.specs.Readings as readings;
 ghost use Rattle.sd_sieve.specs.Whole as held;
 
+use crate::briefs::brief_at;
 use crate::findings::Findings;
 use crate::marks::is_newest_at;
 use crate::reads::{Looked, none_looked, note_looked};
@@ -145,6 +147,45 @@ fn is_looked_at(whole: Whole<'_>, found: &Findings, place: usize, entry: &Entry)
         || is_of_servers(whole, found, place, entry)
 }
 
+fn is_last_number(all: &[Entry], number: u64) -> bool
+    ensures { result ≡ needed.is_number number (needed.last_where (λ (x : Entry). true) (reverse all.now)) }
+{
+    match all {
+        [] => false,
+        [.., last] => last.number == number,
+    }
+}
+
+/// Whether the entry of a number is looked at for its number.
+fn is_number_looked_at(whole: Whole<'_>, found: &Findings, number: u64) -> bool
+    requires index { held.IsIndexed whole }
+    requires found { findings.IsFound whole.entries.now found.now }
+    ensures { result ≡ briefs.is_number_looked_at (held.past_of whole.entry) number }
+{
+    is_open(whole, number)
+        || is_number(number, found.walk.notes.outage)
+        || waits_for(whole, number).is_some()
+        || serves_waiting(found, number)
+        || is_last_number(whole.entries, number)
+}
+
+/// Whether the entry at a place is looked at. A plain one is not read for it.
+#[tactic(auto, using(crate::proofs::BriefLaws::plain_looked))]
+fn is_found_looked_at(whole: Whole<'_>, found: &Findings, place: usize, entry: &Entry) -> bool
+    requires index { held.IsIndexed whole }
+    requires found { findings.IsFound whole.entries.now found.now }
+    requires within { place < length whole.entries.now }
+    requires at { entry.now ≡ slice_index_or whole.entries.now place entry.now }
+    ensures { result ≡ needed.is_looked_at (held.past_of whole.entry) (reverse (take place whole.entry.entries.now)) entry.now }
+{
+    let brief = brief_at(whole.entries, found.walk.briefs.as_slice(), place, entry);
+    if brief.is_plain {
+        is_number_looked_at(whole, found, brief.number)
+    } else {
+        is_looked_at(whole, found, place, entry)
+    }
+}
+
 /// Finds the entries that are looked at, and what is read with them.
 pub fn looked_of(alloc: Global, whole: Whole<'_>, found: &Findings) -> Result<Looked, Memory>
     requires index { held.IsIndexed whole }
@@ -155,7 +196,7 @@ pub fn looked_of(alloc: Global, whole: Whole<'_>, found: &Findings) -> Result<Lo
     let mut looked = none_looked(alloc);
     for place in 0..all.len() {
         let entry = &all[place];
-        let is_read = is_looked_at(whole, found, place, entry);
+        let is_read = is_found_looked_at(whole, found, place, entry);
         note_looked(&mut looked, is_read, entry)?;
     }
     Ok(looked)

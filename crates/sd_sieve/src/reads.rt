@@ -2,9 +2,11 @@
 ghost use Rattle.std.specs.Prelude.{◌≡◌, ◌<◌, ◌∷◌, [], ℕ, List, length, reverse, take, slice_index_or, OnOk, None};
 ghost use Rattle.sd_rules.specs.declared.replies.Entry.{Entry};
 ghost use Rattle.sd_rules.specs.Needed as needed;
+ghost use Rattle.sd_sieve.specs.Briefs as briefs;
 ghost use Rattle.sd_sieve.specs.Findings.{is_among};
 ghost use Rattle.sd_sieve.specs.Readings as readings;
 
+use crate::briefs::{Brief, brief_at, request_again};
 use crate::marks::is_looked_at;
 use crate::numbers::{Numbers, has, note};
 use indexmap::IndexSet;
@@ -31,26 +33,26 @@ fn answer_read(event: &Event, reply: Reply) -> Option<u64>
     }
 }
 
-/// The request of an answer that was replied Again.
-fn request_again(event: &Event, reply: Reply) -> Option<u64>
-    ensures { result ≡ readings.request_again event.now reply }
+/// The request or attempt that an entry is read with, if the entry is looked at.
+fn lead_if(is: bool, entry: &Entry) -> Option<u64>
+    ensures { result ≡ readings.only_if is (needed.read_with entry.now.event entry.now.reply) }
 {
-    match event {
-        Event::Answer(request, _) => {
-            if is_again(reply) {
-                Some(*request)
-            } else {
-                None
-            }
-        }
-        _ => None,
+    if is {
+        read_with(&entry.event, entry.reply)
+    } else {
+        None
     }
 }
 
-fn only_if(test: bool, number: Option<u64>) -> Option<u64>
-    ensures { result ≡ readings.only_if test number }
+/// The request of an answer that is read with it, if the answer is looked at.
+fn answer_if(is: bool, entry: &Entry) -> Option<u64>
+    ensures { result ≡ readings.only_if is (readings.answer_read entry.now.event entry.now.reply) }
 {
-    if test { number } else { None }
+    if is {
+        answer_read(&entry.event, entry.reply)
+    } else {
+        None
+    }
 }
 
 /// The entries that are looked at for their own sake, and what is read with them.
@@ -83,19 +85,13 @@ pub(crate) fn none_looked(alloc: Global) -> Looked
     }
 }
 
-/// Notes an entry, which is looked at or not.
+/// Notes an entry, which is looked at or not, and is read only if it is.
 pub(crate) fn note_looked(looked: &mut Looked, is: bool, entry: &Entry) -> Result<(), Memory>
     ensures { OnOk result ((all part : List Entry) → is ≡ needed.is_looked_at all part entry.now → readings.AreLooked all part looked.old → readings.AreLooked all (entry.now ∷ part) looked.new) }
 {
     looked.marks.push(is)?;
-    note(
-        &mut looked.leads,
-        only_if(is, read_with(&entry.event, entry.reply)),
-    )?;
-    note(
-        &mut looked.answers,
-        only_if(is, answer_read(&entry.event, entry.reply)),
-    )
+    note(&mut looked.leads, lead_if(is, entry))?;
+    note(&mut looked.answers, answer_if(is, entry))
 }
 
 /// Whether an entry is the last answer to a request, where one is named, that was replied Again, and is read with an answer.
@@ -109,29 +105,40 @@ fn is_again_read(all: &[Entry], answers: &Numbers, entry: &Entry, request: Optio
     }
 }
 
-/// Whether an entry is read with one that is looked at.
-#[tactic(auto, using(crate::proofs::ReadLaws::read_with_is))]
-fn is_read_with(all: &[Entry], leads: &Numbers, answers: &Numbers, entry: &Entry) -> bool
-    requires leads { (n : ℕ) → is_among n leads.now.keys ≡ readings.reads_lead (reverse all.now) n (reverse all.now) }
-    requires answers { (n : ℕ) → is_among n answers.now.keys ≡ readings.reads_answer (reverse all.now) n (reverse all.now) }
-    ensures { result ≡ needed.is_read_with (reverse all.now) entry.now (reverse all.now) }
+fn is_again_at(all: &[Entry], answers: &Numbers, entry: &Entry) -> bool
+    requires { (n : ℕ) → is_among n answers.now.keys ≡ readings.reads_answer (reverse all.now) n (reverse all.now) }
+    ensures { result ≡ readings.is_again_read (reverse all.now) entry.now (reverse all.now) (briefs.request_again entry.now.event entry.now.reply) }
 {
-    has(leads, entry.number)
-        || is_again_read(
-            all,
-            answers,
-            entry,
-            request_again(&entry.event, entry.reply),
-        )
+    let request = request_again(&entry.event, entry.reply);
+    is_again_read(all, answers, entry, request)
 }
 
-/// Whether the entry at a place is needed, by those that are looked at.
-pub fn is_needed_by(all: &[Entry], looked: &Looked, place: usize, entry: &Entry) -> bool
+/// Whether an entry is read with one that is looked at. It is itself read only where it was replied Again.
+#[tactic(auto, using(crate::proofs::ReadLaws::read_with_is, crate::proofs::BriefLaws::not_again))]
+fn is_read_with(all: &[Entry], looked: &Looked, brief: Brief, entry: &Entry) -> bool
+    requires brief { brief ≡ briefs.brief_of entry.now }
+    requires leads { (n : ℕ) → is_among n looked.now.leads.keys ≡ readings.reads_lead (reverse all.now) n (reverse all.now) }
+    requires answers { (n : ℕ) → is_among n looked.now.answers.keys ≡ readings.reads_answer (reverse all.now) n (reverse all.now) }
+    ensures { result ≡ needed.is_read_with (reverse all.now) entry.now (reverse all.now) }
+{
+    has(&looked.leads, brief.number) || (brief.is_again && is_again_at(all, &looked.answers, entry))
+}
+
+/// Whether the entry at a place is needed, by those that are looked at; `made` are the briefs of all. An entry that is not is as a rule
+/// not read for it.
+pub(crate) fn is_needed_by(
+    all: &[Entry],
+    made: &[Brief],
+    looked: &Looked,
+    place: usize,
+    entry: &Entry,
+) -> bool
+    requires briefs { briefs.AreBriefs all.now made.now }
     requires looked { readings.AreLooked (reverse all.now) (reverse all.now) looked.now }
     requires within { place < length all.now }
     requires at { entry.now ≡ slice_index_or all.now place entry.now }
     ensures { result ≡ needed.is_needed (reverse all.now) (reverse (take place all.now)) entry.now }
 {
     is_looked_at(all, looked.marks.as_slice(), place, entry)
-        || is_read_with(all, &looked.leads, &looked.answers, entry)
+        || is_read_with(all, looked, brief_at(all, made, place, entry), entry)
 }

@@ -4,12 +4,15 @@ ghost use Rattle.sd_rules.specs.declared.replies.Entry.{Entry};
 ghost use Rattle.sd_rules.specs.Needed as needed;
 ghost use Rattle.sd_index.specs.Entries.{falls, numbers_fall};
 ghost use Rattle.sd_index.specs.Table.{Indexes, Remakes};
+ghost use Rattle.sd_sieve.specs.Briefs.{AreBriefs};
 ghost use Rattle.sd_sieve.specs.Findings as findings;
 ghost use Rattle.sd_sieve.specs.Marks.{MarkNeeded};
 ghost use Rattle.sd_sieve.specs.Plans.{IsPlanOf};
 ghost use Rattle.sd_sieve.specs.Readings.{AreLooked};
+ghost use Rattle.sd_sieve.specs.Sifting.{SiftsAt};
 ghost use Rattle.sd_sieve.specs.Whole as held;
 
+use crate::briefs::Brief;
 use crate::findings::{Findings, find};
 use crate::looked::looked_of;
 use crate::reads::{Looked, is_needed_by};
@@ -39,21 +42,23 @@ fn note_if(made: &mut Remade, is_kept: bool, entry: &Entry) -> Result<(), Memory
     Ok(())
 }
 
-/// The plan by the entries that are looked at.
+/// The plan by the entries that are looked at; `made` are the briefs of all.
 fn planned(
     alloc: Global,
     hasher: Primed,
     entries: &[Entry],
+    made: &[Brief],
     looked: &Looked,
 ) -> Result<Plan, Memory>
     requires numbers { falls (reverse entries.now) ≡ true }
+    requires briefs { AreBriefs entries.now made.now }
     requires looked { AreLooked (reverse entries.now) (reverse entries.now) looked.now }
     ensures { IfOk result (IsPlanOf entries.now) }
 {
     let (mut marks, mut remade) = (Vec::new(alloc), Remade::new(alloc, hasher));
     for place in 0..entries.len() {
         let entry = &entries[place];
-        let is_kept = is_needed_by(entries, looked, place, entry);
+        let is_kept = is_needed_by(entries, made, looked, place, entry);
         marks.push(is_kept)?;
         note_if(&mut remade, is_kept, entry)?;
     }
@@ -72,10 +77,11 @@ fn planned_by(
     ensures { IfOk result (IsPlanOf whole.entry.entries.now) }
 {
     let looked = looked_of(alloc, whole, found)?;
-    planned(alloc, hasher, whole.entries, &looked)
+    let made = found.walk.briefs.as_slice();
+    planned(alloc, hasher, whole.entries, made, &looked)
 }
 
-/// Plans a forget of a journal whose index this is. It goes over the entries a few times, and never over all of them for each.
+/// Plans a forget of a journal whose index this is. It reads most entries once, and never goes over all of them for each.
 pub fn plan_of(
     alloc: Global,
     hasher: Primed,
@@ -111,29 +117,37 @@ fn take_at(entries: &mut Vec<Entry>, place: usize) -> Entry
     mem::replace(&mut entries[place], nothing())
 }
 
-/// Puts an entry behind those that are kept, which have room for it, or behind those that are handed back, which stand first in their
-/// list. Returns how many these are then.
-fn put(
-    entry: Entry,
+/// Puts the entry at a place behind those that are handed back, `count` of them, which stand first.
+fn put_back(entries: &mut Vec<Entry>, count: usize, place: usize)
+    requires ordered { count ≤ place }
+    requires within { place < length entries.old.items }
+    ensures front { (d : Entry) → take (count + 1) entries.new.items ≡ take count entries.old.items ++ slice_index_or entries.old.items place d ∷ [] }
+    ensures long { length entries.new.items ≡ length entries.old.items }
+    ensures behind { (j : ℕ) (d : Entry) → place < j → slice_index_or entries.new.items j d ≡ slice_index_or entries.old.items j d }
+{
+    entries.swap(count, place);
+}
+
+/// Puts the entry at a place behind those that are kept, which have room for it, or behind those that are handed back. Returns how
+/// many these are then.
+fn sift_at(
     is_kept: bool,
+    place: usize,
     kept: &mut Vec<Entry>,
     entries: &mut Vec<Entry>,
     count: usize,
 ) -> usize
     requires room { length kept.old.items + 1 ≤ vec_capacity kept.old }
-    requires within { count < length entries.old.items }
-    ensures kept { kept.new.items ≡ (if is_kept then kept.old.items ++ entry ∷ [] else kept.old.items) }
-    ensures dropped { take result entries.new.items ≡ (if is_kept then take count entries.old.items else take count entries.old.items ++ entry ∷ []) }
-    ensures count { result ≡ (if is_kept then count else count + 1) }
-    ensures long { length entries.new.items ≡ length entries.old.items }
-    ensures behind { (j : ℕ) (d : Entry) → count < j → slice_index_or entries.new.items j d ≡ slice_index_or entries.old.items j d }
+    requires ordered { count ≤ place }
+    requires within { place < length entries.old.items }
+    ensures sifted { SiftsAt is_kept place count result kept.old.items kept.new.items entries.old.items entries.new.items }
     ensures room { vec_capacity kept.new ≡ vec_capacity kept.old }
 {
     if is_kept {
-        kept.push_reserved(entry);
+        kept.push_reserved(take_at(entries, place));
         return count;
     }
-    entries[count] = entry;
+    put_back(entries, count, place);
     count + 1
 }
 
@@ -156,8 +170,7 @@ pub fn sift(mut entries: Vec<Entry>, marks: &[bool], mut kept: Vec<Entry>) -> Si
 {
     let mut count = 0;
     for place in 0..entries.len() {
-        let entry = take_at(&mut entries, place);
-        count = put(entry, marks[place], &mut kept, &mut entries, count);
+        count = sift_at(marks[place], place, &mut kept, &mut entries, count);
     }
     entries.truncate(count);
     Sifted {

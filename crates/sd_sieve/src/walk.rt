@@ -1,9 +1,10 @@
-// The outline and the notes of a journal, found in one walk over it.
+// The outline, the notes and the briefs of a journal, found in one walk over it.
 ghost use Rattle.std.specs.Prelude.{◌∷◌, [], List, reverse, IfOk, OnOk};
 ghost use Rattle.sd_rules.specs.declared.replies.Entry.{Entry};
 ghost use Rattle.sd_sieve.specs.Walks.{IsWalkOf};
 ghost use Rattle.sd_sieve.specs.Whole as held;
 
+use crate::briefs::{Brief, note_brief};
 use crate::notes::{self, Notes};
 use crate::outline::{self, Outline};
 use crate::whole::Whole;
@@ -15,6 +16,8 @@ use std::alloc::Global;
 pub struct Walk {
     pub outline: Outline,
     pub notes: Notes,
+    /// Of each entry, the oldest first.
+    pub briefs: Vec<Brief>,
 }
 
 impl Drop for Walk {
@@ -22,6 +25,7 @@ impl Drop for Walk {
         let Walk {
             outline: _,
             notes: _,
+            briefs: _,
         } = self;
     }
 }
@@ -32,6 +36,7 @@ fn begin(alloc: Global) -> Walk
     Walk {
         outline: outline::nothing(alloc),
         notes: notes::no_notes(alloc),
+        briefs: Vec::new(alloc),
     }
 }
 
@@ -41,7 +46,8 @@ fn pass(walk: &mut Walk, whole: Whole<'_>, before: &[Entry], entry: &Entry) -> R
     ensures { OnOk result (IsWalkOf (held.past_of whole.entry) (reverse before.now) walk.old → IsWalkOf (held.past_of whole.entry) (entry.now ∷ reverse before.now) walk.new) }
 {
     outline::note(&mut walk.outline, whole, before, entry)?;
-    notes::note(&mut walk.notes, whole, entry)
+    notes::note(&mut walk.notes, whole, entry)?;
+    note_brief(&mut walk.briefs, entry)
 }
 
 /// Goes over all entries.

@@ -15,4 +15,4 @@ loop-place-preserved c =
     let lt : place < length all = search rules in
     let at : e ≡ get_or all place e = search rules in
     subst (λ (l : List Entry). AreLooked (reverse all) l c.note_looked.new.looked) (sym (more_at all place e lt at))
-    (c.in_ok-note_looked.ensures (reverse all) (reverse (take place all)) c.is_looked_at-is_read.ensures c.loop-place.invariant)
+    (c.in_ok-note_looked.ensures (reverse all) (reverse (take place all)) c.is_found_looked_at-is_read.ensures c.loop-place.invariant)

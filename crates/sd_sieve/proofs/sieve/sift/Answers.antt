@@ -1,4 +1,8 @@
-use Rattle.std.proofs.Common.{rules, ◌≡◌, ◌<◌, length, arith, refl, ◌∙◌}
+use Rattle.std.proofs.Common.{rules, ◌≡◌, ◌<◌, length, get_or, arith, refl, ◌∙◌}
+use Rattle.sd_rules.specs.declared.events.Event.TheVariants.{Stop}
+use Rattle.sd_rules.specs.declared.replies.Entry.{Entry}
+use Rattle.sd_rules.specs.declared.replies.Reply.TheVariants.{Done}
+use Rattle.std.proofs.lemmas.List.{get_or_default}
 use Rattle.sd_sieve.proofs.KeptLaws.{sifted_more}
 use Rattle.sd_sieve.proofs.MarkLaws.{needed_long}
 use Rattle.sd_sieve.proofs.sieve.sift.Goals as goal
@@ -11,10 +15,11 @@ bounds-marks-place c =
 
 pub loop-place-preserved : goal.loop-place-preserved
 loop-place-preserved c =
-    let lt : c.loop-place.place < length c.args.entries.items = search rules in (
-      sifted_more c.args.entries.items c.loop-place.entries.items c.take_at-entry.new.entries.items c.put-count.new.entries.items c.loop-place.kept.items
-          c.put-count.new.kept.items c.args.marks.now c.loop-place.count c.put-count.result c.loop-place.place c.take_at-entry.result _ _ c.requires.marks lt
-          c.loop-place.invariant.0 c.take_at-entry.ensures.taken refl c.take_at-entry.ensures.long c.take_at-entry.ensures.before c.take_at-entry.ensures.behind
-          c.put-count.ensures.kept c.put-count.ensures.dropped c.put-count.ensures.count c.put-count.ensures.long c.put-count.ensures.behind,
-      c.put-count.ensures.room ∙ c.loop-place.invariant.1,
+    let lt : c.loop-place.place < length c.args.entries.items = search rules in
+    let none : Entry = record { number = 0; moment = 0; event = Stop; reply = Done } in
+    let e : Entry = get_or c.args.entries.items c.loop-place.place none in (
+      sifted_more c.args.entries.items c.loop-place.entries.items c.sift_at-count.new.entries.items c.loop-place.kept.items c.sift_at-count.new.kept.items
+          c.args.marks.now c.loop-place.count c.sift_at-count.result c.loop-place.place e _ _ c.requires.marks lt c.loop-place.invariant.0
+          (get_or_default c.args.entries.items c.loop-place.place none e lt) refl c.sift_at-count.ensures.sifted,
+      c.sift_at-count.ensures.room ∙ c.loop-place.invariant.1,
     )
