@@ -1,5 +1,5 @@
 -- The newest answers by keys.
-use Rattle.std.specs.Prelude.{◌≡◌, ◌∷◌, List, Option, Some, if◌then◌else◌}
+use Rattle.std.specs.Prelude.{◌≡◌, ◌∷◌, Bool, List, Option, Some, if◌then◌else◌}
 use Rattle.std.specs.Map.{lookup}
 use Rattle.std.specs.Option.{option_map}
 use Rattle.sd_rules.specs.declared.keys.Key.{Key}
@@ -12,6 +12,10 @@ use Rattle.sd_cache.specs.Kept.{kept_of}
 -- the answer that is kept for a key
 abbrev pub newest_in : List (Key × Newest) → Key → Option Newest
 newest_in answers k = lookup (same_key k) answers
+
+-- an answer is put under the keys that a test names, and all else stays
+abbrev pub IsPut : (Key → Bool) → Newest → List (Key × Newest) → List (Key × Newest) → Type 0
+IsPut test a old new = (k : Key) → newest_in new k ≡ (if test k then Some a else newest_in old k)
 
 -- what is kept for a key once an answer is put: that one, where it speaks of the key
 abbrev pub after_put : Standing → Key → Option Newest → Option Newest

@@ -1,16 +1,16 @@
 // The cache, which contracts see as the newest answers by the keys of which they speak.
-ghost use Rattle.std.specs.Prelude.{◌≡◌, [], OnOk, OnErr, List, Some};
+ghost use Rattle.std.specs.Prelude.{◌≡◌, [], IfOk, OnOk, OnErr, List, Some};
 ghost use Rattle.std.specs.Option.{option_copied};
 ghost use Rattle.sd_rules.specs.declared.keys.Key.{Key};
 ghost use Rattle.sd_rules.specs.declared.replies.Entry.{Entry};
 ghost use Rattle.sd_rules.specs.Past.{answer_in};
 
-use crate::filing::{Answers, put_found, put_own};
-use crate::kept::{Newest, found_of};
+use crate::filing::{Answers, put_answered};
+use crate::kept::{Newest, newest_of};
 use crate::primed::Primed;
 use indexmap::IndexMap;
-use sd_base::{Copied, Memory, Shared};
-use sd_rules::{Answered, Key, Record};
+use sd_base::{Memory, Shared};
+use sd_rules::{Answered, Key};
 use std::alloc::Global;
 use std::marker::Model;
 
@@ -60,6 +60,21 @@ impl Cache {
         self.answers.get(key).map(|newest| newest.value())
     }
 
+    /// What is kept of an answer.
+    fn newest_of(
+        &self,
+        number: u64,
+        moment: u64,
+        key: &Key,
+        answered: &Answered,
+        marked: bool,
+    ) -> Result<Shared<Newest>, Memory>
+        ensures { IfOk result (λ made. made ≡ kept.kept_of (kept.standing number moment key.now answered.now marked)) }
+    {
+        let newest = newest_of(number, moment, key, answered, marked)?;
+        Shared::new(self.alloc, newest)
+    }
+
     /// Keeps an answer under every key of which it speaks.
     fn keep(
         &mut self,
@@ -72,28 +87,8 @@ impl Cache {
         ensures ok { OnOk result ((k : Key) → cached.newest_in self.new k ≡ cached.after_put (kept.standing number moment key.now answered.now marked) k (cached.newest_in self.old k)) }
         ensures err { OnErr result (self.new ≡ self.old) }
     {
-        let newest = Newest {
-            number,
-            moment,
-            own: key.copy()?,
-            found: found_of(answered)?,
-            marked,
-        };
-        let newest = Shared::new(self.alloc, newest)?;
-        match answered {
-            Answered::Found(found) => match found.value() {
-                Record::User(user) => {
-                    let name = Key::User(user.name.copy()?);
-                    put_found(&mut self.answers, newest, name, Key::Uid(user.uid))
-                }
-                Record::Group(group) => {
-                    let name = Key::Group(group.name.copy()?);
-                    put_found(&mut self.answers, newest, name, Key::Gid(group.gid))
-                }
-                _ => put_own(&mut self.answers, newest),
-            },
-            Answered::Absent => put_own(&mut self.answers, newest),
-        }
+        let newest = self.newest_of(number, moment, key, answered, marked)?;
+        put_answered(&mut self.answers, newest, answered)
     }
 
     /// Keeps what was answered to a key, with the number and the moment of its entry, under every key of which it speaks; `marked`

@@ -7,5 +7,5 @@ pub mod kept;
 pub mod primed;
 
 pub use cache::Cache;
-pub use kept::{Found, Newest};
+pub use kept::Newest;
 pub use primed::Primed;

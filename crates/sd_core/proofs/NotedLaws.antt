@@ -26,7 +26,7 @@ use Rattle.sd_forgetting.proofs.Answers.{name_is, name_same}
 use Rattle.sd_forgetting.proofs.Forgets.{needed_kept}
 use Rattle.sd_creds.specs.declared.marks.Mark.{Mark}
 use Rattle.sd_creds.specs.Marks.{Sets, mark_of, with_wrong}
-use Rattle.sd_creds.specs.Seen as seen
+use Rattle.sd_rules.specs.Limits as seen
 use Rattle.sd_core.specs.declared.notes.LoginWord.{LoginWord}
 use Rattle.sd_core.specs.declared.notes.LoginWord.TheVariants as words
 use Rattle.sd_core.specs.Noted.{user_of_row, user_concerned, word_of_login, word_of_guess, word_of_row, word_of, user_by_word, user_told, note_of, login_told, accept_told, wrongs_told, with_word, mark_with, SaysOf, SayOfUsers, HasCount, Keeps, HadCounts}

@@ -15,7 +15,7 @@ use Rattle.sd_rules.specs.Requests.{is_try_accepted}
 use Rattle.sd_keeping.specs.Counts.{HasCounts}
 use Rattle.sd_creds.specs.declared.marks.Mark.{Mark}
 use Rattle.sd_creds.specs.Marks.{Sets, is_marked, mark_of, with_accept, with_hash, with_login, with_wrong}
-use Rattle.sd_creds.specs.Seen as seen
+use Rattle.sd_rules.specs.Limits as seen
 use Rattle.sd_core.specs.declared.notes.LoginWord.{LoginWord}
 use Rattle.sd_core.specs.declared.notes.LoginWord.TheVariants.{Login, KeptLogin, Acceptance, WrongGuesses, Nothing}
 use Rattle.sd_core.specs.declared.notes.Note.{Note}

@@ -6,7 +6,7 @@ ghost use Rattle.sd_rules.specs.Logins as logins;
 ghost use Rattle.sd_rules.specs.Needed as needed;
 ghost use Rattle.sd_rules.specs.Requests as requests;
 ghost use Rattle.sd_rules.specs.Steps as steps;
-ghost use Rattle.sd_journal.specs.Seen as seen;
+ghost use Rattle.sd_rules.specs.Limits as limits;
 ghost use Rattle.sd_keeping.specs.Counts as counts;
 ghost use Rattle.sd_forgetting.specs.Kept.{IsKeptOf};
 ghost use Rattle.sd_index.specs.Entries.{numbers_fall};
@@ -97,7 +97,7 @@ pub trait LoginBook: Drop {
 pub struct NoBook;
 
 fn reply_by_login(login: Option<Login>) -> Reply
-    ensures { result ≡ steps.reply_to_look (option_map seen.login login) }
+    ensures { result ≡ steps.reply_to_look (option_map limits.login login) }
 {
     match login {
         Some(login) => Reply::Hash(login.number),

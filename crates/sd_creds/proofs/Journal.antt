@@ -6,7 +6,7 @@ use Rattle.sd_rules.specs.declared.replies.Entry.{Entry}
 use Rattle.sd_rules.specs.Logins as logins
 use Rattle.sd_rules.specs.declared.limits.Login.{Login}
 use Rattle.sd_creds.specs.declared.marks.Mark.{Mark}
-use Rattle.sd_creds.specs.Seen as seen
+use Rattle.sd_rules.specs.Limits as seen
 use Rattle.sd_creds.specs.Marks as marked
 use Rattle.sd_creds.specs.Marks.{IsMarkOf, mark_after, mark_in, login_after, hash_after}
 

@@ -1,4 +1,3 @@
 pub mod Hashes
 pub mod Texts
-pub mod Seen
 pub mod Marks

@@ -9,7 +9,7 @@ use Rattle.sd_rules.specs.Keys.{same_name}
 use Rattle.sd_rules.specs.Logins as logins
 use Rattle.sd_rules.specs.declared.limits.Login.{Login}
 use Rattle.sd_creds.specs.declared.marks.Mark.{Mark}
-use Rattle.sd_creds.specs.Seen as seen
+use Rattle.sd_rules.specs.Limits as seen
 
 -- what is kept of a user, where something is
 abbrev pub mark_at : List (List ℕ × Mark) → List ℕ → Option Mark

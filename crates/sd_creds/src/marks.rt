@@ -4,7 +4,7 @@ ghost use Rattle.std.specs.Bool.{OnTrue, OnFalse};
 ghost use Rattle.std.specs.Option.{option_copied, option_map};
 ghost use Rattle.sd_rules.specs.Logins as logins;
 ghost use Rattle.sd_rules.specs.declared.replies.Entry.{Entry};
-ghost use Rattle.sd_creds.specs.Seen as seen;
+ghost use Rattle.sd_rules.specs.Limits as seen;
 
 use crate::verdicts::{cached_login, verdict_of, verdict_of_try};
 use sd_base::{Copied, Memory, Text};

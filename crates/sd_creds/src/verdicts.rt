@@ -2,7 +2,7 @@
 ghost use Rattle.std.specs.Prelude.{◌≡◌};
 ghost use Rattle.std.specs.Option.{option_map};
 ghost use Rattle.sd_creds.specs.Marks as marked;
-ghost use Rattle.sd_creds.specs.Seen as seen;
+ghost use Rattle.sd_rules.specs.Limits as seen;
 
 use crate::marks::Mark;
 use sd_rules::limits::{Login, only_hashed, still_cached, verdict_by_hash, verdict_by_login};

@@ -1,19 +1,16 @@
 -- The reply by what is kept is the reply by the journal.
-use Rattle.std.proofs.Common.{◌≡◌, ℕ, ◌-◌, ◌*◌, ◌/◌, max, nat_lt, nat_le, not, reverse, Bool, true, cond, ◌&&◌, ◌||◌, ◌==◌, List, Option, None, Some, refl, sym, ◌∙◌, ap}
+use Rattle.std.proofs.Common.{◌≡◌, ℕ, ◌-◌, nat_lt, not, reverse, Bool, true, cond, ◌&&◌, ◌||◌, List, Option, None, Some, refl, sym, ◌∙◌, ap}
 use Rattle.std.specs.Option.{option_map}
 use Rattle.sd_rules.specs.declared.keys.Key.{Key}
-use Rattle.sd_rules.specs.declared.records.Answered.{Answered}
-use Rattle.sd_rules.specs.declared.records.Answered.TheVariants.{Found, Absent}
-use Rattle.sd_rules.specs.declared.records.Record.TheVariants as records
 use Rattle.sd_rules.specs.declared.settings.Settings.{Settings}
 use Rattle.sd_rules.specs.declared.replies.Entry.{Entry}
 use Rattle.sd_rules.specs.declared.replies.Reply.{Reply}
 use Rattle.sd_rules.specs.declared.replies.Reply.TheVariants as replies
-use Rattle.sd_rules.specs.Past.{Standing, newest, is_voided, is_void_after, outage_at}
+use Rattle.sd_rules.specs.Past.{Standing, newest, is_void_after, outage_at}
 use Rattle.sd_rules.specs.Requests.{open_for}
 use Rattle.sd_rules.specs.Answers as answers
 use Rattle.sd_cache.specs.declared.kept.Newest.{Newest}
-use Rattle.sd_cache.specs.Kept.{found_of, kept_of}
+use Rattle.sd_cache.specs.Kept.{kept_of}
 use Rattle.sd_index.specs.declared.places.Place.{Place}
 use Rattle.sd_index.specs.Bounds.{Bounds}
 use Rattle.sd_index.specs.Asked as asked
@@ -26,53 +23,28 @@ use Rattle.sd_index.proofs.FallLaws.{falls_from_some}
 use Rattle.sd_index.proofs.VoidLaws.{voided_by_number}
 use Rattle.sd_index.proofs.RunningLaws.{running_is_open}
 
-found_is : (answered : Answered) → asked.is_found (found_of answered) ≡ answers.is_found answered
-found_is Absent = refl
-found_is (Found (records.User user)) = refl
-found_is (Found (records.Group group)) = refl
-found_is (Found (records.Groups groups)) = refl
-found_is (Found (records.Host host)) = refl
-found_is (Found (records.Rules book)) = refl
-
-timeout_is : (s : Settings) (a : Standing) → asked.timeout_of s (kept_of a) ≡ answers.timeout_of s a
-timeout_is s a = ap (λ (b : Bool). cond b (answers.found_timeout s a.own) s.negative_timeout) (found_is a.answered)
-
 fresh_is : (s : Settings) (past : List Entry) (bound t : ℕ) (a : Standing) → nat_lt a.number bound ≡ is_void_after past a
     → asked.is_fresh s bound t (kept_of a) ≡ answers.is_fresh s past t a
-fresh_is s past bound t a void =
-    ap (λ (v : Bool). not (a.marked || v) && nat_lt (t - a.moment) (asked.timeout_of s (kept_of a))) void
-    ∙ ap (λ (o : ℕ). not (is_voided past a) && nat_lt (t - a.moment) o) (timeout_is s a)
-
-midpoint_is : (s : Settings) (t : ℕ) (a : Standing) → asked.is_past_midpoint s t (kept_of a) ≡ answers.is_past_midpoint s t a
-midpoint_is s t a =
-    ap (λ (o : ℕ). answers.has_midpoint a.own && (not (s.nowait == 0) && nat_le (max 10 (o * s.nowait / 100)) (t - a.moment))) (timeout_is s a)
+fresh_is s past bound t a void = ap (λ (v : Bool). not (a.marked || v) && nat_lt (t - a.moment) (answers.timeout_of s a)) void
 
 in_outage_is : (o : ℕ) (x : Option Standing) → asked.reply_in_outage o (option_map kept_of x) ≡ answers.reply_in_outage o x
 in_outage_is o None = refl
-in_outage_is o (Some a) = ap (λ (b : Bool). cond b (replies.Old a.number o) (replies.OldGone a.number o)) (found_is a.answered)
+in_outage_is o (Some a) = refl
 
 unless_fresh_is : (number : ℕ) (x : Option Standing) (outage running : Option ℕ)
     → asked.reply_unless_fresh number (option_map kept_of x) outage running ≡ answers.reply_unless_fresh number x outage running
 unless_fresh_is number x None running = refl
 unless_fresh_is number x (Some o) running = in_outage_is o x
 
-if_fresh_is : (s : Settings) (number t : ℕ) (a : Standing) (outage running : Option ℕ)
-    → asked.reply_if_fresh s number t (kept_of a) outage running ≡ answers.reply_if_fresh s number t a outage running
-if_fresh_is s number t a outage running =
-    let renewable : Bool = answers.is_renewable outage running in
-    ap (λ (b : Bool). cond (not b) (replies.Gone a.number) (cond (asked.is_past_midpoint s t (kept_of a) && renewable) (replies.Refresh a.number number) (replies.Fresh a.number))) (found_is a.answered)
-    ∙ ap (λ (b : Bool). cond (not (answers.is_found a.answered)) (replies.Gone a.number) (cond (b && renewable) (replies.Refresh a.number number) (replies.Fresh a.number))) (midpoint_is s t a)
-
 module _ (s : Settings) (past : List Entry) (b : Bounds) (number t : ℕ) (outage running : Option ℕ) where
-  by_newest_is : (x : Option Standing) → ((a : Standing) → x ≡ Some a → nat_lt a.number (bound_of b a.own (found_of a.answered)) ≡ is_void_after past a)
+  by_newest_is : (x : Option Standing) → ((a : Standing) → x ≡ Some a → nat_lt a.number (bound_of b a.own a.answered) ≡ is_void_after past a)
       → asked.reply_by_newest s number t (option_map kept_of x) (asked.bound_for b (option_map kept_of x)) outage running
       ≡ answers.reply_by_newest s past number t x outage running
   by_newest_is None void = unless_fresh_is number None outage running
   by_newest_is (Some a) void =
-      let bound : ℕ = bound_of b a.own (found_of a.answered) in
+      let bound : ℕ = bound_of b a.own a.answered in
       let old : Reply = asked.reply_unless_fresh number (Some (kept_of a)) outage running in
       ap (λ (f : Bool). cond f (asked.reply_if_fresh s number t (kept_of a) outage running) old) (fresh_is s past bound t a (void a refl))
-      ∙ ap (λ (r : Reply). cond (answers.is_fresh s past t a) r old) (if_fresh_is s number t a outage running)
       ∙ ap (λ (r : Reply). cond (answers.is_fresh s past t a) (answers.reply_if_fresh s number t a outage running) r) (unless_fresh_is number (Some a) outage running)
 
 pub reply_is : (s : Settings) (past : List Entry) (number t : ℕ) (k : Key) (i : Table) → Indexes past i

@@ -9,7 +9,6 @@ use Rattle.sd_rules.specs.declared.records.Answered.{Answered}
 use Rattle.sd_rules.specs.declared.records.Answered.TheVariants.{Found, Absent}
 use Rattle.sd_rules.specs.declared.records.Record.TheVariants as records
 use Rattle.sd_rules.specs.Keys.{same_name, same_key, is_user_named, is_group_named, covers}
-use Rattle.sd_cache.specs.Kept.{found_of}
 use Rattle.sd_index.specs.Bounds.{Bounds}
 use Rattle.sd_index.specs.Voids.{bound_at, by_kind, by_key, by_found, bound_of, Binds, Sets}
 
@@ -68,7 +67,7 @@ module _ (m : List ℕ) (n : ℕ) (b : Bounds) where
   key_of_user names binds Rules = refl
 
   found_user : (names : List (List ℕ × ℕ)) → Binds m n b.user_names names → (answered : Answered)
-      → by_found (record b { user_names = names }) (found_of answered) ≡ cond (is_user_named answered m) n (by_found b (found_of answered))
+      → by_found (record b { user_names = names }) answered ≡ cond (is_user_named answered m) n (by_found b answered)
   found_user names binds Absent = refl
   found_user names binds (Found (records.User user)) =
       binds user.name ∙ ap (λ (p : Bool). cond p n (bound_at b.user_names user.name)) (same_name_sym m user.name)
@@ -89,7 +88,7 @@ module _ (m : List ℕ) (n : ℕ) (b : Bounds) where
   key_of_group names binds Rules = refl
 
   found_group : (names : List (List ℕ × ℕ)) → Binds m n b.group_names names → (answered : Answered)
-      → by_found (record b { group_names = names }) (found_of answered) ≡ cond (is_group_named answered m) n (by_found b (found_of answered))
+      → by_found (record b { group_names = names }) answered ≡ cond (is_group_named answered m) n (by_found b answered)
   found_group names binds Absent = refl
   found_group names binds (Found (records.Group group)) =
       binds group.name ∙ ap (λ (p : Bool). cond p n (bound_at b.group_names group.name)) (same_name_sym m group.name)
@@ -99,46 +98,46 @@ module _ (m : List ℕ) (n : ℕ) (b : Bounds) where
   found_group names binds (Found (records.Rules book)) = refl
 
 module _ (n : ℕ) (b : Bounds) where
-  of_users : (own : Key) (answered : Answered) → bound_of b own (found_of answered) ≤ n
-      → bound_of (record b { users = n }) own (found_of answered) ≡ cond (covers whats.Users own answered) n (bound_of b own (found_of answered))
-  of_users (User a) answered h = second_max b.all b.users (max (bound_at b.user_names a) (by_found b (found_of answered))) n h
-  of_users (Uid uid) answered h = second_max b.all b.users (max 0 (by_found b (found_of answered))) n h
-  of_users (GroupsOf a) answered h = second_max b.all b.users (max (bound_at b.user_names a) (by_found b (found_of answered))) n h
+  of_users : (own : Key) (answered : Answered) → bound_of b own answered ≤ n
+      → bound_of (record b { users = n }) own answered ≡ cond (covers whats.Users own answered) n (bound_of b own answered)
+  of_users (User a) answered h = second_max b.all b.users (max (bound_at b.user_names a) (by_found b answered)) n h
+  of_users (Uid uid) answered h = second_max b.all b.users (max 0 (by_found b answered)) n h
+  of_users (GroupsOf a) answered h = second_max b.all b.users (max (bound_at b.user_names a) (by_found b answered)) n h
   of_users (Group a) answered h = refl
   of_users (Gid gid) answered h = refl
   of_users Host answered h = refl
   of_users Rules answered h = refl
 
-  of_groups : (own : Key) (answered : Answered) → bound_of b own (found_of answered) ≤ n
-      → bound_of (record b { groups = n }) own (found_of answered) ≡ cond (covers whats.Groups own answered) n (bound_of b own (found_of answered))
-  of_groups (Group a) answered h = second_max b.all b.groups (max (bound_at b.group_names a) (by_found b (found_of answered))) n h
-  of_groups (Gid gid) answered h = second_max b.all b.groups (max 0 (by_found b (found_of answered))) n h
+  of_groups : (own : Key) (answered : Answered) → bound_of b own answered ≤ n
+      → bound_of (record b { groups = n }) own answered ≡ cond (covers whats.Groups own answered) n (bound_of b own answered)
+  of_groups (Group a) answered h = second_max b.all b.groups (max (bound_at b.group_names a) (by_found b answered)) n h
+  of_groups (Gid gid) answered h = second_max b.all b.groups (max 0 (by_found b answered)) n h
   of_groups (User a) answered h = refl
   of_groups (Uid uid) answered h = refl
   of_groups (GroupsOf a) answered h = refl
   of_groups Host answered h = refl
   of_groups Rules answered h = refl
 
-  pub bound_after : (what : What) (c : Bounds) (own : Key) (answered : Answered) → Sets what n b c → bound_of b own (found_of answered) ≤ n
-      → bound_of c own (found_of answered) ≡ cond (covers what own answered) n (bound_of b own (found_of answered))
+  pub bound_after : (what : What) (c : Bounds) (own : Key) (answered : Answered) → Sets what n b c → bound_of b own answered ≤ n
+      → bound_of c own answered ≡ cond (covers what own answered) n (bound_of b own answered)
   bound_after whats.All c own answered is h =
-      ap (λ (x : Bounds). bound_of x own (found_of answered)) is
-      ∙ first_max b.all (max (by_kind b own) (max (by_key b own) (by_found b (found_of answered)))) n h
-  bound_after whats.Users c own answered is h = ap (λ (x : Bounds). bound_of x own (found_of answered)) is ∙ of_users own answered h
-  bound_after whats.Groups c own answered is h = ap (λ (x : Bounds). bound_of x own (found_of answered)) is ∙ of_groups own answered h
+      ap (λ (x : Bounds). bound_of x own answered) is
+      ∙ first_max b.all (max (by_kind b own) (max (by_key b own) (by_found b answered))) n h
+  bound_after whats.Users c own answered is h = ap (λ (x : Bounds). bound_of x own answered) is ∙ of_users own answered h
+  bound_after whats.Groups c own answered is h = ap (λ (x : Bounds). bound_of x own answered) is ∙ of_groups own answered h
   bound_after (whats.User m) c own answered is h =
-      let found : ℕ = by_found b (found_of answered) in
+      let found : ℕ = by_found b answered in
       let named : Bool = is_user_named answered m in
       let keyed : Bool = same_key own (User m) || same_key own (GroupsOf m) in
-      ap (λ (x : Bounds). bound_of x own (found_of answered)) is.0
-      ∙ ap (λ (x : ℕ). max b.all (max (by_kind b own) (max x (by_found (record b { user_names = c.user_names }) (found_of answered))))) (key_of_user m n b c.user_names is.1 own)
+      ap (λ (x : Bounds). bound_of x own answered) is.0
+      ∙ ap (λ (x : ℕ). max b.all (max (by_kind b own) (max x (by_found (record b { user_names = c.user_names }) answered)))) (key_of_user m n b c.user_names is.1 own)
       ∙ ap (λ (x : ℕ). max b.all (max (by_kind b own) (max (cond keyed n (by_key b own)) x))) (found_user m n b c.user_names is.1 answered)
       ∙ named_max keyed named b.all (by_kind b own) (by_key b own) found n h
-      ∙ ap (λ (p : Bool). cond p n (bound_of b own (found_of answered))) (or_or (same_key own (User m)) (same_key own (GroupsOf m)) named)
+      ∙ ap (λ (p : Bool). cond p n (bound_of b own answered)) (or_or (same_key own (User m)) (same_key own (GroupsOf m)) named)
   bound_after (whats.Group m) c own answered is h =
-      let found : ℕ = by_found b (found_of answered) in
+      let found : ℕ = by_found b answered in
       let named : Bool = is_group_named answered m in
-      ap (λ (x : Bounds). bound_of x own (found_of answered)) is.0
-      ∙ ap (λ (x : ℕ). max b.all (max (by_kind b own) (max x (by_found (record b { group_names = c.group_names }) (found_of answered))))) (key_of_group m n b c.group_names is.1 own)
+      ap (λ (x : Bounds). bound_of x own answered) is.0
+      ∙ ap (λ (x : ℕ). max b.all (max (by_kind b own) (max x (by_found (record b { group_names = c.group_names }) answered)))) (key_of_group m n b c.group_names is.1 own)
       ∙ ap (λ (x : ℕ). max b.all (max (by_kind b own) (max (cond (same_key own (Group m)) n (by_key b own)) x))) (found_group m n b c.group_names is.1 answered)
       ∙ named_max (same_key own (Group m)) named b.all (by_kind b own) (by_key b own) found n h

@@ -4,15 +4,14 @@ use Rattle.sd_rules.specs.declared.keys.Key.{Key}
 use Rattle.sd_rules.specs.declared.keys.Key.TheVariants.{User, Uid, Group, Gid, GroupsOf, Host, Rules}
 use Rattle.sd_rules.specs.declared.keys.What.{What}
 use Rattle.sd_rules.specs.declared.records.Answered.{Answered}
+use Rattle.sd_rules.specs.declared.records.Answered.TheVariants.{Found, Absent}
+use Rattle.sd_rules.specs.declared.records.Record.TheVariants as records
 use Rattle.sd_rules.specs.declared.events.Event.{Event}
 use Rattle.sd_rules.specs.declared.events.Event.TheVariants.{Answer, Void, Kept}
 use Rattle.sd_rules.specs.declared.events.Row.TheVariants as rows
 use Rattle.sd_rules.specs.declared.replies.Entry.{Entry}
 use Rattle.sd_rules.specs.Keys.{speaks_of, covers}
 use Rattle.sd_rules.specs.Past.{Standing, is_closed, key_of, answer_under, answer_by, answer_in, spoken, or_else, newest, voids, is_void_after}
-use Rattle.sd_cache.specs.declared.kept.Found.{Found}
-use Rattle.sd_cache.specs.declared.kept.Found.TheVariants as founds
-use Rattle.sd_cache.specs.Kept.{found_of}
 use Rattle.sd_index.specs.Bounds.{Bounds}
 use Rattle.sd_index.specs.Entries.{numbers_fall}
 use Rattle.sd_index.specs.Voids.{last_void, by_kind, by_key, by_found, bound_of, no_bounds, Sets, HoldsVoids}
@@ -43,9 +42,9 @@ pub holds_voids_after : (past : List Entry) (e : Entry) (what : What) (b c : Bou
     → Sets what e.number b c → HoldsVoids past b → HoldsVoids (e ∷ past) c
 holds_voids_after past e what b c is falls sets holds = record {
   each = λ own answered.
-      let same : bound_of b own (found_of answered) ≡ last_void past own answered = holds.each own answered in
+      let same : bound_of b own answered ≡ last_void past own answered = holds.each own answered in
       let before : last_void past own answered ≤ e.number = last_void_before past e.number own answered falls in
-      let small : bound_of b own (found_of answered) ≤ e.number = omega arith in
+      let small : bound_of b own answered ≤ e.number = omega arith in
       bound_after e.number b what c own answered sets small
       ∙ ap (λ (x : ℕ). cond (covers what own answered) e.number x) same
       ∙ ap (λ (v : Event). cond (voids v own answered) e.number (last_void past own answered)) (sym is);
@@ -70,20 +69,22 @@ key_none (GroupsOf name) = refl
 key_none Host = refl
 key_none Rules = refl
 
-found_none : (found : Found) → by_found no_bounds found ≡ 0
-found_none (founds.User name) = refl
-found_none (founds.Group name) = refl
-found_none founds.Absent = refl
-found_none founds.Other = refl
+found_none : (answered : Answered) → by_found no_bounds answered ≡ 0
+found_none Absent = refl
+found_none (Found (records.User user)) = refl
+found_none (Found (records.Group group)) = refl
+found_none (Found (records.Groups groups)) = refl
+found_none (Found (records.Host host)) = refl
+found_none (Found (records.Rules book)) = refl
 
 three_none : (a b c : ℕ) → a ≡ 0 → b ≡ 0 → c ≡ 0 → max 0 (max a (max b c)) ≡ 0
 three_none a b c h k l = omega arith
 
-none_of : (own : Key) (found : Found) → bound_of no_bounds own found ≡ 0
-none_of own found = three_none (by_kind no_bounds own) (by_key no_bounds own) (by_found no_bounds found) (kind_none own) (key_none own) (found_none found)
+none_of : (own : Key) (answered : Answered) → bound_of no_bounds own answered ≡ 0
+none_of own answered = three_none (by_kind no_bounds own) (by_key no_bounds own) (by_found no_bounds answered) (kind_none own) (key_none own) (found_none answered)
 
 pub holds_no_voids : HoldsVoids [] no_bounds
-holds_no_voids = record { each = λ own answered. none_of own (found_of answered) }
+holds_no_voids = record { each = λ own answered. none_of own answered }
 
 under_number : (e : Entry) (answered : Answered) (own : Option Key) (a : Standing) → answer_under e answered own ≡ Some a → a.number ≡ e.number
 under_number e answered None a h = cc

@@ -7,12 +7,11 @@ use Rattle.sd_rules.specs.declared.keys.Key.TheVariants as keys
 use Rattle.sd_rules.specs.declared.keys.What.{What}
 use Rattle.sd_rules.specs.declared.keys.What.TheVariants as whats
 use Rattle.sd_rules.specs.declared.records.Answered.{Answered}
+use Rattle.sd_rules.specs.declared.records.Answered.TheVariants.{Found}
+use Rattle.sd_rules.specs.declared.records.Record.TheVariants as records
 use Rattle.sd_rules.specs.declared.replies.Entry.{Entry}
 use Rattle.sd_rules.specs.Keys.{same_name}
 use Rattle.sd_rules.specs.Past.{voids}
-use Rattle.sd_cache.specs.declared.kept.Found.{Found}
-use Rattle.sd_cache.specs.declared.kept.Found.TheVariants as founds
-use Rattle.sd_cache.specs.Kept.{found_of}
 use Rattle.sd_index.specs.Bounds.{Bounds}
 use Rattle.sd_index.specs.Entries.{numbers_fall}
 
@@ -45,14 +44,14 @@ by_key b (keys.Group name) = bound_at b.group_names name
 by_key b _ = 0
 
 -- the last that names whom an answer found
-abbrev pub by_found : Bounds → Found → ℕ
-by_found b (founds.User name) = bound_at b.user_names name
-by_found b (founds.Group name) = bound_at b.group_names name
+abbrev pub by_found : Bounds → Answered → ℕ
+by_found b (Found (records.User user)) = bound_at b.user_names user.name
+by_found b (Found (records.Group group)) = bound_at b.group_names group.name
 by_found b _ = 0
 
--- the last that covers an answer to a key that found this
-abbrev pub bound_of : Bounds → Key → Found → ℕ
-bound_of b own found = max b.all (max (by_kind b own) (max (by_key b own) (by_found b found)))
+-- the last that covers what was answered to a key
+abbrev pub bound_of : Bounds → Key → Answered → ℕ
+bound_of b own answered = max b.all (max (by_kind b own) (max (by_key b own) (by_found b answered)))
 
 -- a name is bound by this number now, and each other as before
 abbrev pub Binds : List ℕ → ℕ → List (List ℕ × ℕ) → List (List ℕ × ℕ) → Type 0
@@ -70,7 +69,7 @@ Sets (whats.Group name) number old new =
 
 -- the bounds are those of a journal's invalidations
 pub record HoldsVoids (past : List Entry) (b : Bounds) : Type 0 where
-  pub each : (own : Key) (answered : Answered) → bound_of b own (found_of answered) ≡ last_void past own answered
+  pub each : (own : Key) (answered : Answered) → bound_of b own answered ≡ last_void past own answered
 
 -- where the one holds a journal's invalidations, the other does with one more, of what this names and of this number
 abbrev pub FollowsVoid : What → ℕ → Bounds → Bounds → Type 0

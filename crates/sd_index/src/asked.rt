@@ -6,8 +6,8 @@ ghost use Rattle.sd_rules.specs.Answers as answers;
 ghost use Rattle.sd_index.specs.Asked as asked;
 
 use sd_base::{Text, Texts};
-use sd_cache::{Found, Newest};
-use sd_rules::{Key, Reply, Settings};
+use sd_cache::Newest;
+use sd_rules::{Answered, Key, Reply, Settings};
 
 /// The least age, in seconds, at which an answer is past its midpoint.
 const LEAST_MIDPOINT: u64 = 10;
@@ -39,16 +39,16 @@ fn found_timeout(settings: &Settings, key: &Key) -> u32
     }
 }
 
-fn is_found(found: &Found) -> bool
-    ensures { result ≡ asked.is_found found.now }
+fn is_found(answered: &Answered) -> bool
+    ensures { result ≡ answers.is_found answered.now }
 {
-    !matches!(found, Found::Absent)
+    matches!(answered, Answered::Found(_))
 }
 
 fn timeout_of(settings: &Settings, answer: &Newest) -> u32
     ensures { result ≡ asked.timeout_of settings.now answer.now }
 {
-    if is_found(&answer.found) {
+    if is_found(&answer.answered) {
         found_timeout(settings, &answer.own)
     } else {
         settings.negative_timeout
@@ -90,7 +90,7 @@ fn reply_in_outage(outage: u64, answer: Option<&Newest>) -> Reply
 {
     match answer {
         Some(a) => {
-            if is_found(&a.found) {
+            if is_found(&a.answered) {
                 Reply::Old(a.number, outage)
             } else {
                 Reply::OldGone(a.number, outage)
@@ -133,7 +133,7 @@ fn reply_if_fresh(
 ) -> Reply
     ensures { result ≡ asked.reply_if_fresh settings.now number t answer.now outage running }
 {
-    if !is_found(&answer.found) {
+    if !is_found(&answer.answered) {
         return Reply::Gone(answer.number);
     }
     if is_past_midpoint(settings, t, answer) && outage.is_none() && running.is_none() {

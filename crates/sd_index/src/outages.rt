@@ -1,36 +1,16 @@
 // The outage that stands.
 ghost use Rattle.std.specs.Prelude.{◌≡◌, None};
-ghost use Rattle.sd_rules.specs.Past as past;
 ghost use Rattle.sd_index.specs.Outages as outages;
 
-use sd_journal::past::{is_closed, is_shut, is_within};
-use sd_rules::{Entry, Event, Reply};
+use sd_journal::past::{ends_outage, records_outage};
+use sd_rules::Entry;
+use sd_rules::limits::is_within;
 
 /// An outage that nothing has ended: the number and the moment of its entry.
 #[derive(Clone, Copy, PartialEq, Eq)]
 pub struct Outage {
     pub number: u64,
     pub moment: u64,
-}
-
-fn records_outage(event: &Event, reply: Reply) -> bool
-    ensures { result ≡ past.records_outage event.now reply }
-{
-    match event {
-        Event::Outage(_) => is_closed(reply) || is_shut(reply),
-        Event::Offline => true,
-        _ => false,
-    }
-}
-
-fn ends_outage(event: &Event, reply: Reply) -> bool
-    ensures { result ≡ past.ends_outage event.now reply }
-{
-    match event {
-        Event::Answer(_, _) => is_closed(reply),
-        Event::Online => true,
-        _ => false,
-    }
 }
 
 /// The outage that nothing has ended after one more entry.

@@ -5,8 +5,8 @@ ghost use Rattle.sd_index.specs.Voids as voids;
 
 use indexmap::IndexMap;
 use sd_base::{Copied, Memory, Text};
-use sd_cache::{Found, Primed};
-use sd_rules::{Event, Key, What};
+use sd_cache::Primed;
+use sd_rules::{Answered, Event, Key, Record, What};
 use std::alloc::Global;
 use std::marker::Model;
 
@@ -67,6 +67,8 @@ impl Model for Voids {
 }
 
 impl Voids {
+    ghost use Rattle.sd_rules.specs.declared.records.Answered.TheVariants as answers;
+
     /// No invalidation was made; names are hashed so.
     pub fn new(alloc: Global, hasher: Primed) -> Voids
         ensures { result ≡ voids.no_bounds }
@@ -100,21 +102,30 @@ impl Voids {
         }
     }
 
-    fn by_found(&self, found: &Found) -> u64
-        ensures { result ≡ voids.by_found self.now found.now }
+    fn by_record(&self, found: &Record) -> u64
+        ensures { result ≡ voids.by_found self.now (answers.Found found.now) }
     {
         match found {
-            Found::User(name) => bound_at(&self.user_names, name),
-            Found::Group(name) => bound_at(&self.group_names, name),
-            Found::Absent | Found::Other => 0,
+            Record::User(user) => bound_at(&self.user_names, &user.name),
+            Record::Group(group) => bound_at(&self.group_names, &group.name),
+            Record::Groups(_) | Record::Host(_) | Record::Rules(_) => 0,
         }
     }
 
-    /// The number below which an answer to a key that found this is voided.
-    pub fn bound(&self, own: &Key, found: &Found) -> u64
-        ensures { result ≡ voids.bound_of self.now own.now found.now }
+    fn by_found(&self, answered: &Answered) -> u64
+        ensures { result ≡ voids.by_found self.now answered.now }
     {
-        let by_name = self.by_key(own).max(self.by_found(found));
+        match answered {
+            Answered::Found(found) => self.by_record(found.value()),
+            Answered::Absent => 0,
+        }
+    }
+
+    /// The number below which what was answered to a key is voided.
+    pub fn bound(&self, own: &Key, answered: &Answered) -> u64
+        ensures { result ≡ voids.bound_of self.now own.now answered.now }
+    {
+        let by_name = self.by_key(own).max(self.by_found(answered));
         self.all.max(self.by_kind(own).max(by_name))
     }
 

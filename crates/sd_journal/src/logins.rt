@@ -2,7 +2,7 @@
 ghost use Rattle.std.specs.Prelude.{◌≡◌, reverse, Some, None, if◌then◌else◌};
 ghost use Rattle.std.specs.Option.{option_copied, option_map};
 ghost use Rattle.sd_rules.specs.Logins as logins;
-ghost use Rattle.sd_journal.specs.Seen as seen;
+ghost use Rattle.sd_rules.specs.Limits as limits;
 
 use crate::past::is_closed;
 use crate::requests::is_try_accepted;
@@ -79,7 +79,7 @@ fn login_by(before: &[Entry], user: &Text, event: &Event, reply: Reply) -> Optio
 }
 
 fn login_in(entry: &Entry, hashed: Option<bool>) -> Option<Login>
-    ensures { option_map seen.login result ≡ logins.login_in entry.now hashed }
+    ensures { option_map limits.login result ≡ logins.login_in entry.now hashed }
 {
     match hashed {
         Some(hashed) => Some(Login {
@@ -93,7 +93,7 @@ fn login_in(entry: &Entry, hashed: Option<bool>) -> Option<Login>
 
 /// The last online login of a user.
 pub fn last_online_login(entries: &[Entry], user: &Text) -> Option<Login>
-    ensures { option_map seen.login result ≡ logins.last_online_login (reverse entries.now) user.now }
+    ensures { option_map limits.login result ≡ logins.last_online_login (reverse entries.now) user.now }
 {
     for place in (0..entries.len()).rev() {
         let entry = &entries[place];
@@ -110,7 +110,7 @@ pub fn last_online_login(entries: &[Entry], user: &Text) -> Option<Login>
 
 /// The hash entry of a user: the last online login that carries a hash.
 pub fn hash_entry(entries: &[Entry], user: &Text) -> Option<Login>
-    ensures { option_map seen.login result ≡ logins.hash_entry (reverse entries.now) user.now }
+    ensures { option_map limits.login result ≡ logins.hash_entry (reverse entries.now) user.now }
 {
     for place in (0..entries.len()).rev() {
         let entry = &entries[place];
@@ -207,7 +207,7 @@ fn last_wrong(entries: &[Entry], user: &Text) -> Option<u64>
 
 /// The hash entry of a user, where hashes are used.
 pub fn usable_hash(settings: &Settings, entries: &[Entry], user: &Text) -> Option<Login>
-    ensures { option_map seen.login result ≡ logins.usable_hash settings.now (reverse entries.now) user.now }
+    ensures { option_map limits.login result ≡ logins.usable_hash settings.now (reverse entries.now) user.now }
 {
     if settings.cache_credentials {
         hash_entry(entries, user)
@@ -233,7 +233,7 @@ pub fn verdict_of(
 }
 
 fn usable_login(settings: &Settings, entries: &[Entry], user: &Text) -> Option<Login>
-    ensures { option_map seen.login result ≡ logins.usable_login settings.now (reverse entries.now) user.now }
+    ensures { option_map limits.login result ≡ logins.usable_login settings.now (reverse entries.now) user.now }
 {
     if settings.cache_credentials {
         only_hashed(last_online_login(entries, user))

@@ -1,10 +1,11 @@
 // What the entries made so far say of keys: their answers, invalidations and outages.
-ghost use Rattle.std.specs.Prelude.{◌≡◌, ◌+◌, nat_lt, reverse, None};
+ghost use Rattle.std.specs.Prelude.{◌≡◌, reverse, None};
 ghost use Rattle.std.specs.Option.{option_copied, option_map};
 ghost use Rattle.sd_rules.specs.Past as past;
 ghost use Rattle.sd_journal.specs.Seen as seen;
 
 use crate::keys::{covers, speaks_of};
+use sd_rules::limits::is_within;
 use sd_rules::{Answered, Entry, Event, Key, Reply, Row};
 
 /// An answer as it stands among the entries: its number and moment, its own key, and whether a kept row marks it as
@@ -156,7 +157,8 @@ pub fn is_voided(entries: &[Entry], answer: Standing<'_>) -> bool
     answer.marked || is_void_after(entries, answer)
 }
 
-fn records_outage(event: &Event, reply: Reply) -> bool
+/// Whether an entry of this event and reply records an outage.
+pub fn records_outage(event: &Event, reply: Reply) -> bool
     ensures { result ≡ past.records_outage event.now reply }
 {
     match event {
@@ -166,7 +168,8 @@ fn records_outage(event: &Event, reply: Reply) -> bool
     }
 }
 
-fn ends_outage(event: &Event, reply: Reply) -> bool
+/// Whether it ends the outage that stands.
+pub fn ends_outage(event: &Event, reply: Reply) -> bool
     ensures { result ≡ past.ends_outage event.now reply }
 {
     match event {
@@ -174,13 +177,6 @@ fn ends_outage(event: &Event, reply: Reply) -> bool
         Event::Online => true,
         _ => false,
     }
-}
-
-/// Whether a moment t comes before the end of a span of seconds: the end is the first moment that is not within it.
-pub fn is_within(begin: u64, span: u64, t: u64) -> bool
-    ensures { result ≡ nat_lt t (begin + span) }
-{
-    t < begin || t - begin < span
 }
 
 /// The number of the outage that stands at a moment.

@@ -2,7 +2,7 @@
 ghost use Rattle.std.specs.Prelude.{◌≡◌, ◌+◌, ◌^◌, ◌<◌, reverse, None};
 ghost use Rattle.sd_rules.specs.Servers as servers;
 
-use crate::past::is_within;
+use sd_rules::limits::is_within;
 use sd_rules::{Entry, Event, Reply, Row, Settings};
 
 /// How many seconds a fall keeps its server from every request.

@@ -4,6 +4,7 @@ ghost use Rattle.std.specs.Option.{option_copied, option_map};
 ghost use Rattle.sd_rules.specs.KeptRows as kept;
 ghost use Rattle.sd_rules.specs.Steps as steps;
 ghost use Rattle.sd_journal.specs.Seen as seen;
+ghost use Rattle.sd_rules.specs.Limits as limits;
 ghost use Rattle.sd_keeping.specs.Counts as counts;
 ghost use Rattle.sd_keeping.specs.Keeps as keeps;
 ghost use Rattle.sd_keeping.specs.Opening as opening;
@@ -47,7 +48,7 @@ fn hash_row(
 }
 
 fn is_unhashed_login(number: u64, login: Option<Login>) -> bool
-    ensures { result ≡ kept.is_unhashed_login number (option_map seen.login login) }
+    ensures { result ≡ kept.is_unhashed_login number (option_map limits.login login) }
 {
     match login {
         Some(login) => login.number == number && !login.hashed,

@@ -2,7 +2,7 @@
 ghost use Rattle.std.specs.Prelude.{◌≡◌, reverse, None};
 ghost use Rattle.std.specs.Option.{option_copied, option_map};
 ghost use Rattle.sd_rules.specs.Needed as needed;
-ghost use Rattle.sd_journal.specs.Seen as seen;
+ghost use Rattle.sd_rules.specs.Limits as limits;
 
 use sd_base::Text;
 use sd_journal::logins::{hash_carried, user_of};
@@ -58,7 +58,7 @@ pub fn user_guessed(event: &Event) -> Option<&Text>
 
 /// Whether a login, where there is one, is the entry of this number.
 pub fn is_login(number: u64, login: Option<Login>) -> bool
-    ensures { result ≡ needed.is_login number (option_map seen.login login) }
+    ensures { result ≡ needed.is_login number (option_map limits.login login) }
 {
     match login {
         Some(login) => login.number == number,

@@ -2,11 +2,10 @@
 ghost use Rattle.std.specs.Prelude.{◌≡◌, reverse, None};
 ghost use Rattle.sd_rules.specs.declared.replies.Entry.{Entry};
 ghost use Rattle.sd_rules.specs.Needed as needed;
-ghost use Rattle.sd_rules.specs.Past as past;
 ghost use Rattle.sd_rules.specs.Servers as servers;
 
 use crate::readings::is_number;
-use sd_journal::past::{is_closed, is_shut};
+use sd_journal::past::{ends_outage, records_outage};
 use sd_rules::{Entry, Event, Reply, Row};
 
 pub fn is_noted(reply: Reply) -> bool
@@ -76,26 +75,6 @@ pub fn is_last_online(all: &[Entry], entry: &Entry) -> bool
     ensures { result ≡ needed.is_last_online (reverse all.now) entry.now }
 {
     is_online(&entry.event) && is_number(entry.number, last_online(all))
-}
-
-fn records_outage(event: &Event, reply: Reply) -> bool
-    ensures { result ≡ past.records_outage event.now reply }
-{
-    match event {
-        Event::Outage(_) => is_closed(reply) || is_shut(reply),
-        Event::Offline => true,
-        _ => false,
-    }
-}
-
-fn ends_outage(event: &Event, reply: Reply) -> bool
-    ensures { result ≡ past.ends_outage event.now reply }
-{
-    match event {
-        Event::Answer(_, _) => is_closed(reply),
-        Event::Online => true,
-        _ => false,
-    }
 }
 
 /// The number of the last outage that nothing has ended since, however long ago.

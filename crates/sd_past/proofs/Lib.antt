@@ -1,3 +1,3 @@
 pub mod RoomLaws
-pub mod StandingLaws
+mod StandingLaws
 pub mod RowLaws

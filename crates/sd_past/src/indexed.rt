@@ -191,7 +191,7 @@ impl Past for IndexedPast {
     }
 
     fn newest(&self, key: &Key) -> Option<Standing<'_>> {
-        newest_by(self.entries.as_slice(), &self.index, key)
+        newest_by(&self.index, key)
     }
 
     fn outage_at(&self, timeout: u32, moment: u64) -> Option<u64> {

@@ -7,7 +7,6 @@ use Rattle.sd_rules.specs.declared.events.Event.TheVariants.{Answer, Void, Kept}
 use Rattle.sd_rules.specs.declared.events.Row.TheVariants as rows
 use Rattle.sd_rules.specs.declared.replies.Entry.{Entry}
 use Rattle.sd_rules.specs.Past.{Standing, is_closed, key_of, answer_under, answer_by, answer_in, voids, is_void_after}
-use Rattle.sd_cache.specs.Kept.{found_of}
 use Rattle.sd_index.specs.Bounds.{Bounds}
 use Rattle.sd_index.specs.Entries.{falls, numbers_fall}
 use Rattle.sd_index.specs.Voids.{last_void, bound_of, no_bounds, HoldsVoids}
@@ -112,7 +111,7 @@ module _ (a : Standing) where
 -- of the answer that the entry at a place holds
 pub void_after_is : (es : List Entry) (i : ℕ) (e : Entry) (b : Bounds) (a : Standing) → falls (reverse es) ≡ true → HoldsVoids (reverse es) b → i < length es
     → e ≡ get_or es i e → answer_in (reverse (take i es)) e ≡ Some a
-    → nat_lt a.number (bound_of b a.own (found_of a.answered)) ≡ is_void_after (reverse es) a
+    → nat_lt a.number (bound_of b a.own a.answered) ≡ is_void_after (reverse es) a
 void_after_is es i e b a falling holds lt at is =
     let before : List Entry = reverse (take i es) in
     ap (λ (n : ℕ). nat_lt a.number n) (holds.each a.own a.answered)

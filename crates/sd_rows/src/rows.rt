@@ -48,7 +48,7 @@ fn answer_row(
     if !is_newest_at(all, found.newest.as_slice(), place, entry) {
         return Ok(None);
     }
-    let voided = is_voided(&found.voids, all, place, entry, a)?;
+    let voided = is_voided(&found.voids, all, place, entry, a);
     let (key, answered) = (a.own.copy()?, a.answered.copy()?);
     Ok(Some(Row::Answer(a.number, a.moment, key, answered, voided)))
 }

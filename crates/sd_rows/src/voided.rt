@@ -7,7 +7,6 @@ ghost use Rattle.sd_index.specs.Voids.{HoldsVoids};
 
 use sd_base::Memory;
 use sd_cache::Primed;
-use sd_cache::kept::found_of;
 use sd_index::voids::Voids;
 use sd_journal::past::Standing;
 use sd_rules::{Entry, Event};
@@ -39,41 +38,25 @@ pub fn voids_of(alloc: Global, hasher: Primed, entries: &[Entry]) -> Result<Void
 
 /// Whether an invalidation that covers an answer stands after the entry that holds it, which is at a place.
 #[tactic(auto, using(crate::proofs::VoidedLaws::void_after_is))]
-fn is_void_after(
-    voids: &Voids,
-    all: &[Entry],
-    place: usize,
-    entry: &Entry,
-    a: Standing<'_>,
-) -> Result<bool, Memory>
+fn is_void_after(voids: &Voids, all: &[Entry], place: usize, entry: &Entry, a: Standing<'_>) -> bool
     requires numbers { falls (reverse all.now) ≡ true }
     requires voids { HoldsVoids (reverse all.now) voids.now }
     requires within { place < length all.now }
     requires at { entry.now ≡ slice_index_or all.now place entry.now }
     requires holds { past.answer_in (reverse (take place all.now)) entry.now ≡ Some (seen.standing a) }
-    ensures { IfOk result (λ is. is ≡ past.is_void_after (reverse all.now) (seen.standing a.entry)) }
+    ensures { result ≡ past.is_void_after (reverse all.now) (seen.standing a.entry) }
 {
-    let found = found_of(a.answered)?;
-    Ok(a.number < voids.bound(a.own, &found))
+    a.number < voids.bound(a.own, a.answered)
 }
 
 /// Whether the answer that the entry at a place holds is invalidated.
-pub fn is_voided(
-    voids: &Voids,
-    all: &[Entry],
-    place: usize,
-    entry: &Entry,
-    a: Standing<'_>,
-) -> Result<bool, Memory>
+pub fn is_voided(voids: &Voids, all: &[Entry], place: usize, entry: &Entry, a: Standing<'_>) -> bool
     requires numbers { falls (reverse all.now) ≡ true }
     requires voids { HoldsVoids (reverse all.now) voids.now }
     requires within { place < length all.now }
     requires at { entry.now ≡ slice_index_or all.now place entry.now }
     requires holds { past.answer_in (reverse (take place all.now)) entry.now ≡ Some (seen.standing a) }
-    ensures { IfOk result (λ is. is ≡ past.is_voided (reverse all.now) (seen.standing a.entry)) }
+    ensures { result ≡ past.is_voided (reverse all.now) (seen.standing a.entry) }
 {
-    if a.marked {
-        return Ok(true);
-    }
-    is_void_after(voids, all, place, entry, a)
+    a.marked || is_void_after(voids, all, place, entry, a)
 }

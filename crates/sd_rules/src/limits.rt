@@ -21,8 +21,8 @@ pub struct Login {
     pub hashed: bool,
 }
 
-/// Whether a moment is before the end of a span of seconds.
-fn is_within(begin: u64, span: u64, t: u64) -> bool
+/// Whether a moment t comes before the end of a span of seconds: the end is the first moment that is not within it.
+pub fn is_within(begin: u64, span: u64, t: u64) -> bool
     ensures { result ≡ nat_lt t (begin + span) }
 {
     t < begin || t - begin < span

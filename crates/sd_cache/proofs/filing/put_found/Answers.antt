@@ -10,11 +10,10 @@ pub returns-clause-ok : goal.returns-clause-ok
 returns-clause-ok c k =
     let old : List (Key × Newest) = c.args.answers.now.entries in
     c.file-3.ensures.filed k
-    ∙ ap (λ (o : Option Newest). cond (same_key c.args.number k) (Some c.in_ok-by_number.by_number) o)
+    ∙ ap (λ (o : Option Newest). cond (same_key c.args.number k) (Some c.in_ok-own.field-0.second) o)
     (c.file-2.ensures.filed k
-    ∙ ap (λ (o : Option Newest). cond (same_key c.args.name k) (Some c.in_ok-by_name.by_name) o)
+    ∙ ap (λ (o : Option Newest). cond (same_key c.args.name k) (Some c.in_ok-own.field-0.first) o)
     (c.file.ensures.filed k
-    ∙ ap (λ (es : List (Key × Newest)). cond (same_key c.in_ok-own.own k) (Some c.args.newest) (newest_in es k)) c.in_ok-reserve.ensures.entries
-    ∙ ap (λ (own : Key). cond (same_key own k) (Some c.args.newest) (newest_in old k)) c.in_ok-own.ensures
-    ∙ ap (λ (n : Newest). cond (same_key n.own k) (Some c.args.newest) (newest_in old k)) c.value.ensures))
-    ∙ three_puts (same_key c.args.newest.own k) (same_key c.args.name k) (same_key c.args.number k) c.args.newest c.args.newest c.in_ok-by_name.by_name c.in_ok-by_number.by_number (newest_in old k) refl c.in_ok-by_name.ensures c.in_ok-by_number.ensures
+    ∙ ap (λ (es : List (Key × Newest)). cond (same_key c.in_ok-own.field-0.own k) (Some c.args.newest) (newest_in es k)) c.in_ok-reserve.ensures.entries
+    ∙ ap (λ (own : Key). cond (same_key own k) (Some c.args.newest) (newest_in old k)) c.in_ok-own.ensures.own))
+    ∙ three_puts (same_key c.args.newest.own k) (same_key c.args.name k) (same_key c.args.number k) c.args.newest c.args.newest c.in_ok-own.field-0.first c.in_ok-own.field-0.second (newest_in old k) refl c.in_ok-own.ensures.first c.in_ok-own.ensures.second

@@ -1,13 +1,10 @@
 use Rattle.std.proofs.Common.{ℕ, nat_lt, ◌∙◌, ap}
 use Rattle.sd_journal.specs.Seen.{standing}
-use Rattle.sd_cache.specs.declared.kept.Found.{Found}
-use Rattle.sd_index.specs.Voids.{bound_of}
 use Rattle.sd_rows.proofs.VoidedLaws.{void_after_is}
 use Rattle.sd_rows.proofs.voided.is_void_after.Goals as goal
 
 pub returns : goal.returns
 returns c =
-    ap (λ (n : ℕ). nat_lt c.args.a.number n)
-    (c.bound.ensures ∙ ap (λ (f : Found). bound_of c.args.voids.now c.args.a.own.now f) c.in_ok-found.ensures)
+    ap (λ (n : ℕ). nat_lt c.args.a.number n) c.bound.ensures
     ∙ void_after_is c.args.all.now c.args.place c.args.entry.now c.args.voids.now (standing c.args.a) c.requires.numbers c.requires.voids c.requires.within
     c.requires.at c.requires.holds
