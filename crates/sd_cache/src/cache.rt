@@ -1,5 +1,5 @@
 // The cache, which contracts see as the newest answers by the keys of which they speak.
-ghost use Rattle.std.specs.Prelude.{◌≡◌, [], IfOk, OnOk, OnErr, List, Some};
+ghost use Rattle.std.specs.Prelude.{◌≡◌, [], OnOk, OnErr, List, Some};
 ghost use Rattle.std.specs.Option.{option_copied};
 ghost use Rattle.sd_rules.specs.declared.keys.Key.{Key};
 ghost use Rattle.sd_rules.specs.declared.replies.Entry.{Entry};
@@ -9,7 +9,7 @@ use crate::filing::{Answers, put_answered};
 use crate::kept::{Newest, newest_of};
 use crate::primed::Primed;
 use indexmap::IndexMap;
-use sd_base::{Memory, Shared};
+use sd_base::Memory;
 use sd_rules::{Answered, Key};
 use std::alloc::Global;
 use std::marker::Model;
@@ -57,22 +57,7 @@ impl Cache {
     pub fn newest(&self, key: &Key) -> Option<&Newest>
         ensures { option_copied result ≡ cached.newest_in self.now key.now }
     {
-        self.answers.get(key).map(|newest| newest.value())
-    }
-
-    /// What is kept of an answer.
-    fn newest_of(
-        &self,
-        number: u64,
-        moment: u64,
-        key: &Key,
-        answered: &Answered,
-        marked: bool,
-    ) -> Result<Shared<Newest>, Memory>
-        ensures { IfOk result (λ made. made ≡ kept.kept_of (kept.standing number moment key.now answered.now marked)) }
-    {
-        let newest = newest_of(number, moment, key, answered, marked)?;
-        Shared::new(self.alloc, newest)
+        self.answers.get(key)
     }
 
     /// Keeps an answer under every key of which it speaks.
@@ -87,7 +72,7 @@ impl Cache {
         ensures ok { OnOk result ((k : Key) → cached.newest_in self.new k ≡ cached.after_put (kept.standing number moment key.now answered.now marked) k (cached.newest_in self.old k)) }
         ensures err { OnErr result (self.new ≡ self.old) }
     {
-        let newest = self.newest_of(number, moment, key, answered, marked)?;
+        let newest = newest_of(self.alloc, number, moment, key, answered, marked)?;
         put_answered(&mut self.answers, newest, answered)
     }
 

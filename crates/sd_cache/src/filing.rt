@@ -9,14 +9,14 @@ ghost use Rattle.sd_cache.specs.Cache as cached;
 use crate::kept::Newest;
 use crate::primed::Primed;
 use indexmap::IndexMap;
-use sd_base::{Copied, Memory, Shared};
+use sd_base::{Copied, Memory};
 use sd_rules::{Answered, Group, Key, Record, User};
 
-/// The newest answers by the keys of which they speak; an answer of several keys stands once.
-pub type Answers = IndexMap<Key, Shared<Newest>, Primed>;
+/// The newest answers by the keys of which they speak.
+pub type Answers = IndexMap<Key, Newest, Primed>;
 
 /// Keeps an answer under a key. There is room for it.
-fn file(answers: &mut Answers, key: Key, newest: Shared<Newest>)
+fn file(answers: &mut Answers, key: Key, newest: Newest)
     requires { 0 < spare answers.old }
     ensures filed { cached.IsPut (same_key key) newest answers.old.entries answers.new.entries }
     ensures room { spare answers.old ≤ spare answers.new + 1 }
@@ -25,40 +25,35 @@ fn file(answers: &mut Answers, key: Key, newest: Shared<Newest>)
 }
 
 /// Keeps an answer under its own key.
-fn put_own(answers: &mut Answers, newest: Shared<Newest>) -> Result<(), Memory>
+fn put_own(answers: &mut Answers, newest: Newest) -> Result<(), Memory>
     ensures ok { OnOk result (cached.IsPut (same_key newest.own) newest answers.old.entries answers.new.entries) }
     ensures err { OnErr result (answers.new.entries ≡ answers.old.entries) }
 {
     answers.reserve(1)?;
-    let own = newest.value().own.copy()?;
+    let own = newest.own.value().copy()?;
     file(answers, own, newest);
     Ok(())
 }
 
-/// An answer's own key, and two more owners of the answer.
+/// An answer's own key, and two copies of the answer.
 struct Copies {
     own: Key,
-    first: Shared<Newest>,
-    second: Shared<Newest>,
+    first: Newest,
+    second: Newest,
 }
 
-fn copies_of(newest: &Shared<Newest>) -> Result<Copies, Memory>
+fn copies_of(newest: &Newest) -> Result<Copies, Memory>
     ensures own { IfOk result (λ made. made.own ≡ newest.now.own) }
     ensures first { IfOk result (λ made. made.first ≡ newest.now) }
     ensures second { IfOk result (λ made. made.second ≡ newest.now) }
 {
     let (first, second) = (newest.copy()?, newest.copy()?);
-    let own = newest.value().own.copy()?;
+    let own = newest.own.value().copy()?;
     Ok(Copies { own, first, second })
 }
 
 /// Keeps an answer under its own key and under the name and the number of what it found.
-fn put_found(
-    answers: &mut Answers,
-    newest: Shared<Newest>,
-    name: Key,
-    number: Key,
-) -> Result<(), Memory>
+fn put_found(answers: &mut Answers, newest: Newest, name: Key, number: Key) -> Result<(), Memory>
     ensures ok { OnOk result (cached.IsPut (λ k. same_key newest.own k || (same_key name k || same_key number k)) newest answers.old.entries answers.new.entries) }
     ensures err { OnErr result (answers.new.entries ≡ answers.old.entries) }
 {
@@ -71,7 +66,7 @@ fn put_found(
 }
 
 /// Keeps an answer that found a user.
-fn put_user(answers: &mut Answers, newest: Shared<Newest>, user: &User) -> Result<(), Memory>
+fn put_user(answers: &mut Answers, newest: Newest, user: &User) -> Result<(), Memory>
     ensures ok { OnOk result (cached.IsPut (speaks_of newest.own (found.Found (records.User user.now))) newest answers.old.entries answers.new.entries) }
     ensures err { OnErr result (answers.new.entries ≡ answers.old.entries) }
 {
@@ -80,7 +75,7 @@ fn put_user(answers: &mut Answers, newest: Shared<Newest>, user: &User) -> Resul
 }
 
 /// Keeps an answer that found a group.
-fn put_group(answers: &mut Answers, newest: Shared<Newest>, group: &Group) -> Result<(), Memory>
+fn put_group(answers: &mut Answers, newest: Newest, group: &Group) -> Result<(), Memory>
     ensures ok { OnOk result (cached.IsPut (speaks_of newest.own (found.Found (records.Group group.now))) newest answers.old.entries answers.new.entries) }
     ensures err { OnErr result (answers.new.entries ≡ answers.old.entries) }
 {
@@ -91,7 +86,7 @@ fn put_group(answers: &mut Answers, newest: Shared<Newest>, group: &Group) -> Re
 /// Keeps an answer under every key of which it speaks.
 pub fn put_answered(
     answers: &mut Answers,
-    newest: Shared<Newest>,
+    newest: Newest,
     answered: &Answered,
 ) -> Result<(), Memory>
     ensures ok { OnOk result (cached.IsPut (speaks_of newest.own answered.now) newest answers.old.entries answers.new.entries) }

@@ -319,7 +319,7 @@ impl<P: Past, R: Ruling, L: LoginBook> EntryCore<P, R, L> {
             moment,
             event,
         )?;
-        given_by(self.past.list(), number, reply)
+        given_by(&self.past, number, event, reply)
     }
 
     /// Puts an entry at the end of the journal, or hands its event back for want of memory.

@@ -8,27 +8,9 @@ ghost use Rattle.sd_core.specs.Numbered as replies;
 use sd_base::{Copied, Memory, Shared, Text};
 use sd_index::entries::event_at;
 use sd_keeping::readings::hash_of_event;
-use sd_rules::{Answered, By, Entry, Event, Given, Hash, Outcome, Record, Reply, Row, Rule};
-
-fn record_of(event: &Event) -> Option<&Shared<Record>>
-    ensures { option_copied result ≡ steps.record_of event.now }
-{
-    match event {
-        Event::Answer(_, Answered::Found(found)) => Some(found),
-        Event::Kept(Row::Answer(_, _, _, Answered::Found(found), _)) => Some(found),
-        _ => None,
-    }
-}
-
-fn record_at(entries: &[Entry], number: u64) -> Option<&Shared<Record>>
-    requires { falls (reverse entries.now) ≡ true }
-    ensures { option_copied result ≡ steps.record_in (steps.event_at (reverse entries.now) number) }
-{
-    match event_at(entries, number) {
-        Some(event) => record_of(event),
-        None => None,
-    }
-}
+use sd_past::Past;
+use sd_past::found::record_at;
+use sd_rules::{By, Entry, Event, Given, Hash, Outcome, Record, Reply, Rule};
 
 fn answer_named_by_outcome(outcome: Outcome) -> Option<u64>
     ensures { result ≡ steps.answer_named_by_outcome outcome }
@@ -49,13 +31,15 @@ fn answer_named(reply: Reply) -> Option<u64>
     }
 }
 
-fn record_named(entries: &[Entry], reply: Reply) -> Option<&Shared<Record>>
-    requires { falls (reverse entries.now) ≡ true }
-    ensures { option_copied result ≡ steps.record_named (reverse entries.now) reply }
+/// The record of the answer that the reply to an event names. A question is most likely answered by the newest answer of its key.
+fn record_named<'a, P: Past>(past: &'a P, event: &Event, reply: Reply) -> Option<&'a Shared<Record>>
+    requires { falls (P.entries past.now) ≡ true }
+    ensures { option_copied result ≡ steps.record_named (P.entries past.now) reply }
 {
-    match answer_named(reply) {
-        Some(number) => record_at(entries, number),
-        None => None,
+    match (answer_named(reply), event) {
+        (Some(number), Event::Ask(key)) => past.record(key, number),
+        (Some(number), _) => record_at(past.list(), number),
+        (None, _) => None,
     }
 }
 
@@ -136,17 +120,22 @@ pub fn copy_of<T: Copied>(item: Option<&T>) -> Result<Option<T>, Memory>
     }
 }
 
-/// What an entry of this number and reply gives, over the entries before it.
-pub fn given_by(entries: &[Entry], number: u64, reply: Reply) -> Result<Given, Memory>
-    requires { falls (reverse entries.now) ≡ true }
-    ensures made { IfOk result (λ given. given ≡ steps.given_by (reverse entries.now) number reply) }
+/// What an entry of this number, event and reply gives, over the entries before it.
+pub fn given_by<P: Past>(
+    past: &P,
+    number: u64,
+    event: &Event,
+    reply: Reply,
+) -> Result<Given, Memory>
+    requires { falls (P.entries past.now) ≡ true }
+    ensures made { IfOk result (λ given. given ≡ steps.given_by (P.entries past.now) number reply) }
     ensures free { replies.gives_nothing reply ≡ true → IsOk result }
 {
     Ok(Given {
         number,
         reply,
-        found: copy_of(record_named(entries, reply))?,
-        hash: hash_named(entries, reply),
-        rule: copy_of(rule_named(entries, reply))?,
+        found: copy_of(record_named(past, event, reply))?,
+        hash: hash_named(past.list(), reply),
+        rule: copy_of(rule_named(past.list(), reply))?,
     })
 }

@@ -49,7 +49,7 @@ fn timeout_of(settings: &Settings, answer: &Newest) -> u32
     ensures { result ≡ asked.timeout_of settings.now answer.now }
 {
     if is_found(&answer.answered) {
-        found_timeout(settings, &answer.own)
+        found_timeout(settings, answer.own.value())
     } else {
         settings.negative_timeout
     }
@@ -77,7 +77,7 @@ fn has_midpoint(key: &Key) -> bool
 fn is_past_midpoint(settings: &Settings, t: u64, answer: &Newest) -> bool
     ensures { result ≡ asked.is_past_midpoint settings.now t answer.now }
 {
-    if !has_midpoint(&answer.own) || settings.nowait == 0 {
+    if !has_midpoint(answer.own.value()) || settings.nowait == 0 {
         return false;
     }
     let timeout = u64::from(timeout_of(settings, answer));

@@ -64,7 +64,7 @@ fn bound_of(voids: &Voids, answer: Option<&Newest>) -> u64
     ensures { result ≡ asked.bound_for voids.now (option_copied answer.entry) }
 {
     match answer {
-        Some(answer) => voids.bound(&answer.own, &answer.answered),
+        Some(answer) => voids.bound(answer.own.value(), &answer.answered),
         None => 0,
     }
 }

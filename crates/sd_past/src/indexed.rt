@@ -9,15 +9,16 @@ ghost use Rattle.sd_index.specs.Entries.{falls, numbers_fall};
 ghost use Rattle.sd_index.specs.Table.{Indexes, takes_none};
 ghost use Rattle.sd_past.specs.Closing.{closes_place, HasRoom};
 
+use crate::found::record_by;
 use crate::past::Past;
 use crate::room::{make_room, with_room};
 use crate::standings::newest_by;
-use sd_base::Memory;
+use sd_base::{Memory, Shared};
 use sd_cache::Primed;
 use sd_index::Index;
 use sd_journal::past::Standing;
 use sd_rows::rows_of;
-use sd_rules::{Entry, Event, Key, Reply, Rows, Settings};
+use sd_rules::{Entry, Event, Key, Record, Reply, Rows, Settings};
 use sd_sieve::whole::Whole;
 use sd_sieve::{Plan, Sifted, plan_of, sift};
 use std::alloc::Global;
@@ -192,6 +193,10 @@ impl Past for IndexedPast {
 
     fn newest(&self, key: &Key) -> Option<Standing<'_>> {
         newest_by(&self.index, key)
+    }
+
+    fn record(&self, key: &Key, number: u64) -> Option<&Shared<Record>> {
+        record_by(self.entries.as_slice(), &self.index, key, number)
     }
 
     fn outage_at(&self, timeout: u32, moment: u64) -> Option<u64> {

@@ -6,15 +6,16 @@ ghost use Rattle.sd_rules.specs.Requests as requests;
 ghost use Rattle.sd_index.specs.Entries.{numbers_fall};
 ghost use Rattle.sd_past.specs.Closing.{closes_place, HasRoom};
 
+use crate::found::record_at;
 use crate::past::Past;
 use crate::room::{copied, make_room, with_room};
-use sd_base::Memory;
+use sd_base::{Memory, Shared};
 use sd_journal::past::{Standing, newest, outage_at};
 use sd_journal::requests::{is_open, is_open_attempt, is_open_request, reserved_places, waits_for};
 use sd_journal::{answers, past, servers};
 use sd_keeping::rows_of;
 use sd_needs::{forgotten, needed};
-use sd_rules::{Entry, Event, Key, Reply, Rows, Settings};
+use sd_rules::{Entry, Event, Key, Record, Reply, Rows, Settings};
 use std::alloc::Global;
 use std::marker::Model;
 
@@ -116,6 +117,10 @@ impl Past for ListedPast {
 
     fn newest(&self, key: &Key) -> Option<Standing<'_>> {
         newest(self.entries.as_slice(), key)
+    }
+
+    fn record(&self, _key: &Key, number: u64) -> Option<&Shared<Record>> {
+        record_at(self.entries.as_slice(), number)
     }
 
     fn outage_at(&self, timeout: u32, moment: u64) -> Option<u64> {

@@ -1,6 +1,6 @@
 // What a core asks of the entries made so far.
 ghost use Rattle.std.specs.Prelude.{◌≡◌, ◌+◌, ◌<◌, ◌≤◌, ◌^◌, ◌∷◌, List, true, reverse, IfOk, IfErr, IsOk, OnErr, OnOk};
-ghost use Rattle.std.specs.Option.{option_map};
+ghost use Rattle.std.specs.Option.{option_copied, option_map};
 ghost use Rattle.sd_rules.specs.declared.replies.Entry.{Entry};
 ghost use Rattle.sd_rules.specs.Answers as answers;
 ghost use Rattle.sd_rules.specs.Needed as needed;
@@ -16,9 +16,9 @@ ghost use Rattle.sd_index.specs.Table.{takes_none};
 ghost use Rattle.sd_past.specs.Closing.{closes_place};
 ghost use Rattle.sd_rows.specs.Kept.{Keeps};
 
-use sd_base::Memory;
+use sd_base::{Memory, Shared};
 use sd_journal::past::Standing;
-use sd_rules::{Entry, Event, Key, Reply, Rows, Settings};
+use sd_rules::{Entry, Event, Key, Record, Reply, Rows, Settings};
 use std::alloc::Global;
 
 /// The entries made so far, whose numbers rise.
@@ -54,6 +54,11 @@ pub trait Past: Drop {
     /// The newest answer of a key.
     fn newest(&self, key: &Key) -> Option<Standing<'_>>
         ensures { option_map seen.standing result ≡ past.newest (entries self.now) key.now };
+
+    /// The record that the entry of a number holds. It is found soonest where it is the newest answer of this key.
+    fn record(&self, key: &Key, number: u64) -> Option<&Shared<Record>>
+        requires { falls (entries self.now) ≡ true }
+        ensures { option_copied result ≡ steps.record_in (steps.event_at (entries self.now) number) };
 
     /// The number of the outage that stands at a moment.
     fn outage_at(&self, timeout: u32, moment: u64) -> Option<u64>

@@ -18,7 +18,7 @@ fn standing_of(kept: &Newest) -> Standing<'_>
     Standing {
         number: kept.number,
         moment: kept.moment,
-        own: &kept.own,
+        own: kept.own.value(),
         answered: &kept.answered,
         marked: kept.marked,
     }

@@ -1,7 +1,5 @@
-use Rattle.std.proofs.Common.{◌≡◌, List, true, sym, subst}
-use Rattle.sd_rules.specs.declared.replies.Entry.{Entry}
+use Rattle.std.proofs.Common.{◌≡◌, true, sym, subst}
 use Rattle.sd_rules.specs.Steps.{Daemon}
-use Rattle.sd_index.specs.Entries.{falls}
 use Rattle.sd_past.specs.Closing.{closes_place}
 use Rattle.sd_core.proofs.HeldLaws.{falls_if_sound}
 use Rattle.sd_core.proofs.Stepped.{closing_reply}
@@ -15,5 +13,4 @@ returns-clause-closing g c = λ h.
 
 pub given_by-requires : goal.given_by-requires
 given_by-requires g c =
-    subst (λ (es : List Entry). falls es ≡ true) (sym c.list.ensures)
-    (falls_if_sound c.self.inside.next (g.P.Past.entries c.self.inside.past) c.self.invariant.0.sound.numbers)
+    falls_if_sound c.self.inside.next (g.P.Past.entries c.self.inside.past) c.self.invariant.0.sound.numbers
