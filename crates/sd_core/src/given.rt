@@ -36,10 +36,13 @@ fn record_named<'a, P: Past>(past: &'a P, event: &Event, reply: Reply) -> Option
     requires { falls (P.entries past.now) ≡ true }
     ensures { option_copied result ≡ steps.record_named (P.entries past.now) reply }
 {
-    match (answer_named(reply), event) {
-        (Some(number), Event::Ask(key)) => past.record(key, number),
-        (Some(number), _) => record_at(past.list(), number),
-        (None, _) => None,
+    let key = match event {
+        Event::Ask(key) => Some(key),
+        _ => None,
+    };
+    match answer_named(reply) {
+        Some(number) => past.record(key, number),
+        None => None,
     }
 }
 

@@ -40,25 +40,23 @@ pub fn record_at(entries: &[Entry], number: u64) -> Option<&Shared<Record>>
     }
 }
 
-/// The record that the entry of a number holds; where it is the newest answer of the key, the index has it and no entry is read.
+/// The record that the entry of a number holds. Where it is the newest answer of the key, the index has it and no entry is read.
 pub fn record_by<'a>(
     entries: &'a [Entry],
     index: &'a Index,
-    key: &Key,
+    key: Option<&Key>,
     number: u64,
 ) -> Option<&'a Shared<Record>>
     requires falls { falls (reverse entries.now) ≡ true }
     requires indexes { Indexes (reverse entries.now) index.now }
     ensures { option_copied result ≡ steps.record_in (steps.event_at (reverse entries.now) number) }
 {
-    match index.newest(key) {
-        Some(kept) => {
+    if let Some(key) = key {
+        if let Some(kept) = index.newest(key) {
             if kept.number == number {
-                record_in_answer(&kept.answered)
-            } else {
-                record_at(entries, number)
+                return record_in_answer(&kept.answered);
             }
         }
-        None => record_at(entries, number),
     }
+    record_at(entries, number)
 }

@@ -195,7 +195,7 @@ impl Past for IndexedPast {
         newest_by(&self.index, key)
     }
 
-    fn record(&self, key: &Key, number: u64) -> Option<&Shared<Record>> {
+    fn record(&self, key: Option<&Key>, number: u64) -> Option<&Shared<Record>> {
         record_by(self.entries.as_slice(), &self.index, key, number)
     }
 

@@ -119,7 +119,7 @@ impl Past for ListedPast {
         newest(self.entries.as_slice(), key)
     }
 
-    fn record(&self, _key: &Key, number: u64) -> Option<&Shared<Record>> {
+    fn record(&self, _key: Option<&Key>, number: u64) -> Option<&Shared<Record>> {
         record_at(self.entries.as_slice(), number)
     }
 

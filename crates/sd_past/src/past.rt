@@ -55,8 +55,8 @@ pub trait Past: Drop {
     fn newest(&self, key: &Key) -> Option<Standing<'_>>
         ensures { option_map seen.standing result ≡ past.newest (entries self.now) key.now };
 
-    /// The record that the entry of a number holds. It is found soonest where it is the newest answer of this key.
-    fn record(&self, key: &Key, number: u64) -> Option<&Shared<Record>>
+    /// The record that the entry of a number holds. It is found soonest where it is the newest answer of the key, if one is named.
+    fn record(&self, key: Option<&Key>, number: u64) -> Option<&Shared<Record>>
         requires { falls (entries self.now) ≡ true }
         ensures { option_copied result ≡ steps.record_in (steps.event_at (entries self.now) number) };
 

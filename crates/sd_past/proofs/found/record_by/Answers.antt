@@ -9,9 +9,9 @@ use Rattle.sd_past.proofs.found.record_by.Goals as goal
 pub returns-then-kept-number : goal.returns-then-kept-number
 returns-then-kept-number c =
     let past = reverse c.args.entries.now in
-    let kept : option_map kept_of (newest past c.args.key.now) ≡ Some c.in-Some.kept.now =
-    sym (c.newest.ensures past c.requires.indexes) ∙ ap option_copied c.in-Some.is in
-    let same : c.in-Some.kept.now.number ≡ c.args.number = omega (arith, c.if-kept-number.true) in
+    let kept : option_map kept_of (newest past c.in-Some.key.now) ≡ Some c.in-Some-newest.kept.now =
+    sym (c.newest.ensures past c.requires.indexes) ∙ ap option_copied c.in-Some-newest.is in
+    let same : c.in-Some-newest.kept.now.number ≡ c.args.number = omega (arith, c.if-kept-number.true) in
     c.record_in_answer.ensures
-    ∙ sym (record_kept past c.args.key.now c.in-Some.kept.now c.requires.falls kept)
+    ∙ sym (record_kept past c.in-Some.key.now c.in-Some-newest.kept.now c.requires.falls kept)
     ∙ ap (λ (n : ℕ). record_in (event_at past n)) same
