@@ -1,6 +1,6 @@
 // The cache, which contracts see as the newest answers by the keys of which they speak.
-ghost use Rattle.std.specs.Prelude.{◌≡◌, [], OnOk, OnErr, List, Some};
-ghost use Rattle.std.specs.Option.{option_copied};
+ghost use Rattle.std.specs.Prelude.{◌≡◌, [], OnOk, OnErr, IfSome, List, Some};
+ghost use Rattle.std.specs.Option.{option_copied, option_map};
 ghost use Rattle.sd_rules.specs.declared.keys.Key.{Key};
 ghost use Rattle.sd_rules.specs.declared.replies.Entry.{Entry};
 ghost use Rattle.sd_rules.specs.Past.{answer_in};
@@ -58,6 +58,34 @@ impl Cache {
         ensures { option_copied result ≡ cached.newest_in self.now key.now }
     {
         self.answers.get(key)
+    }
+
+    /// The newest answer of a key, if it stands at this place of the table.
+    #[tactic(auto, using(crate::proofs::Same::found_again))]
+    fn newest_at(&self, place: usize, key: &Key) -> Option<&Newest>
+        ensures { IfSome result (λ newest. cached.newest_in self.now key.now ≡ Some newest.now) }
+    {
+        match self.answers.get_index(place) {
+            Some((own, newest)) if own == key => Some(newest),
+            _ => None,
+        }
+    }
+
+    /// The newest answer of a key and its place in the table, which is looked for first right behind another place: for who asks for
+    /// answers in the order in which their keys came, each with a name and a number.
+    pub fn newest_behind(&self, place: usize, key: &Key) -> Option<(usize, &Newest)>
+        ensures { option_map (λ p. p.1.now) result ≡ cached.newest_in self.now key.now }
+    {
+        let next = place.saturating_add(1);
+        if let Some(newest) = self.newest_at(next, key) {
+            return Some((next, newest));
+        }
+        let further = place.saturating_add(2);
+        if let Some(newest) = self.newest_at(further, key) {
+            return Some((further, newest));
+        }
+        let (place, _, newest) = self.answers.get_full(key)?;
+        Some((place, newest))
     }
 
     /// Keeps an answer under every key of which it speaks.

@@ -1,17 +1,22 @@
 -- The parts of a core after an entry was put behind the others, or was not, and after a forget.
-use Rattle.std.proofs.Common.{◌≡◌, ℕ, ◌+◌, ◌-◌, ◌*◌, ◌^◌, ◌≤◌, Bool, ◌||◌, List, [], ◌∷◌, reverse, min, true, arith, refl, sym, ap, subst, ◌∙◌}
-use Rattle.std.specs.Prelude.{Result, Ok, Err, IfOk, length, sum_by, ◌<◌, ◌&&◌, nat_lt}
+use Rattle.std.proofs.Common.{◌≡◌, ℕ, ◌+◌, ◌-◌, ◌*◌, ◌^◌, ◌≤◌, Bool, ◌||◌, List, [], ◌∷◌, reverse, min, true, false, cond, arith, refl, sym, ap, subst, ◌∙◌}
+use Rattle.std.specs.Prelude.{Result, Ok, Err, IfOk, Option, Some, is_some, length, sum_by, ◌<◌, ◌&&◌, nat_lt}
 use Rattle.std.proofs.lemmas.Bool.Decides.{nat_tests}
+use Rattle.sd_rules.specs.declared.events.Event.{Event}
+use Rattle.sd_rules.specs.declared.events.Event.TheVariants.{Stop}
 use Rattle.sd_rules.specs.declared.events.Row.{Row}
 use Rattle.sd_rules.specs.declared.replies.Entry.{Entry}
 use Rattle.sd_rules.specs.declared.settings.Settings.{Settings}
 use Rattle.sd_rules.specs.KeptRows.{opened, rows_of}
-use Rattle.sd_rules.specs.Needed.{needed}
+use Rattle.sd_rules.specs.Needed as needing
+use Rattle.sd_rules.specs.Needed.{needed, forgotten, is_needed, last_where, needed_among, forgotten_among}
 use Rattle.sd_rules.specs.Steps.{Daemon, recorded}
 use Rattle.sd_rules.specs.TextBytes.{bytes_of_event, bytes_of_row, text_bytes}
 use Rattle.sd_keeping.specs.Counts.{HasCounts}
 use Rattle.sd_index.specs.Entries.{numbers_fall, falls}
 use Rattle.sd_rows.specs.Kept.{Keeps}
+use Rattle.sd_forgetting.specs.Kept.{has_stop}
+use Rattle.sd_forgetting.proofs.Forgets.{needed_kept}
 use Rattle.sd_core.specs.Held.{daemon_of, IsHeld}
 use Rattle.sd_core.specs.Laws.{IsKept}
 use Rattle.sd_core.specs.Looks.{has_stopped, is_stop}
@@ -99,15 +104,50 @@ pub kept_fit : {M : Type 0} (r : Result (List Row) M) (d : Daemon) → IfOk r (�
 kept_fit (Ok rs) d h sound = rows_fit d rs h sound
 kept_fit (Err m) d h sound = tt
 
+-- what is kept and what is handed back hold together what the whole holds
+module _ (all : List Entry) where
+  parted : (b : Bool) (e : Entry) (kept back : List Entry) (n : ℕ) → text_bytes kept + text_bytes back ≡ n
+      → text_bytes (cond b (e ∷ kept) kept) + text_bytes (cond b back (e ∷ back)) ≡ bytes_of_event e.event + n
+  parted true e kept back n h = omega (arith, h)
+  parted false e kept back n h = omega (arith, h)
+
+  texts_parted : (past : List Entry) → text_bytes (needed_among all past) + text_bytes (forgotten_among all past) ≡ text_bytes past
+  texts_parted [] = refl
+  texts_parted (e ∷ past) = parted (is_needed all past e) e (needed_among all past) (forgotten_among all past) (text_bytes past) (texts_parted past)
+
+texts_left : (past : List Entry) (texts back n : ℕ) → texts ≡ text_bytes past → text_bytes past ≤ 512 * 1024 * 1024 → back ≡ min (text_bytes (forgotten past)) (2 ^ 64 - 1) → n ≡ texts - back
+    → n ≡ text_bytes (needed past)
+texts_left past texts back n counted fits bytes less =
+    let parts : text_bytes (needed past) + text_bytes (forgotten past) ≡ text_bytes past = texts_parted past past in
+    omega (arith, counted, fits, bytes, less, parts)
+
+-- a word to end is kept
+stopped_by : (b : Bool) (n : ℕ) (last : Option ℕ) (rest : Bool) → is_some last ≡ rest → is_some (cond b (Some n) last) ≡ (b || rest)
+stopped_by true n last rest h = refl
+stopped_by false n last rest h = h
+
+ends_is : (event : Event) → needing.is_stop event ≡ is_stop event
+ends_is Stop = refl
+ends_is _ = refl
+
+stopped_is : (past : List Entry) → has_stop past ≡ has_stopped past
+stopped_is [] = refl
+stopped_is (e ∷ past) =
+    stopped_by (needing.is_stop e.event) e.number (last_where (λ (x : Entry). needing.is_stop x.event) past) (has_stopped past) (stopped_is past)
+    ∙ ap (λ (b : Bool). b || has_stopped past) (ends_is e.event)
+
+stops_same : (past kept : List Entry) → has_stop past ≡ has_stop kept → has_stopped past ≡ has_stopped kept
+stops_same past kept same = sym (stopped_is past) ∙ same ∙ stopped_is kept
+
 -- the parts of a core after a forget
-pub held_forgotten : (s : Settings) (next floor texts n : ℕ) (stopped stops : Bool) (past new : List Entry) → IsHeld s next floor texts stopped past → new ≡ needed past →
-    n ≡ min (text_bytes new) (2 ^ 64 - 1) → stops ≡ has_stopped new → IsHeld s next floor n stops new
-held_forgotten s next floor texts n stopped stops past new held is bytes says =
+pub held_forgotten : (s : Settings) (next floor texts back n : ℕ) (stopped : Bool) (past new : List Entry) → IsHeld s next floor texts stopped past → new ≡ needed past →
+    back ≡ min (text_bytes (forgotten past)) (2 ^ 64 - 1) → n ≡ texts - back → IsHeld s next floor n stopped new
+held_forgotten s next floor texts back n stopped past new held is bytes less =
     let d : Daemon = daemon_of s next floor past in
     let here : IsSound (daemon_of s next floor new) = subst (λ (es : List Entry). IsSound (daemon_of s next floor es)) (sym is) (sound_forgotten d held.kept held.sound) in
     record {
-      counted = all_counted n (text_bytes new) bytes here.texts;
-      told = says;
+      counted = texts_left past texts back n held.counted held.sound.texts bytes less ∙ ap text_bytes (sym is);
+      told = held.told ∙ stops_same past (needed past) (needed_kept next past held.kept.orderly).ends.stopped ∙ ap has_stopped (sym is);
       sound = here;
       kept = subst (λ (es : List Entry). IsKept (daemon_of s next floor es)) (sym is) (kept_forgotten d held.kept);
     }

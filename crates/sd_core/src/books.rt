@@ -12,13 +12,14 @@ ghost use Rattle.sd_forgetting.specs.Kept.{IsKeptOf};
 ghost use Rattle.sd_index.specs.Entries.{numbers_fall};
 ghost use Rattle.sd_index.specs.Table.{takes_none};
 ghost use Rattle.sd_past.specs.Closing.{closes_place};
+ghost use Rattle.sd_past.specs.Forgetting.{AreForgotten};
 ghost use Rattle.sd_core.specs.Noted as noted;
 
 use crate::notes::{keep, make_room, note_of};
 use sd_base::{Memory, Text};
 use sd_creds::Marks;
 use sd_journal::logins::{cached_login, usable_hash, verdict_of, verdict_of_try};
-use sd_past::Past;
+use sd_past::{Forgotten, Past};
 use sd_rules::limits::Login;
 use sd_rules::{Entry, Event, Reply, Settings, Verdict};
 use std::alloc::Global;
@@ -47,11 +48,11 @@ pub trait LoginBook: Drop {
         ensures closing { closes_place (P.entries past.old) entry.event ≡ true → IsOk result };
 
     /// Forgets the entries that no later event can look at, and hands them back, the oldest first. They take no login with them.
-    fn forget<P: Past>(&self, alloc: Global, past: &mut P) -> Result<Vec<Entry>, Memory>
+    fn forget<P: Past>(&self, alloc: Global, past: &mut P) -> Result<Forgotten, Memory>
         requires says { Says self.now (P.entries past.old) }
         requires shown { IsKeptOf (P.entries past.old) (needed.needed (P.entries past.old)) }
         ensures kept { OnOk result (P.entries past.new ≡ needed.needed (P.entries past.old)) }
-        ensures back { IfOk result (λ dropped. reverse dropped.items ≡ needed.forgotten (P.entries past.old)) }
+        ensures back { IfOk result (λ made. AreForgotten (P.entries past.old) made) }
         ensures unchanged { OnErr result (P.entries past.new ≡ P.entries past.old) }
         ensures says { Says self.now (P.entries past.new) };
 
@@ -116,7 +117,7 @@ impl LoginBook for NoBook {
         past.put(entry)
     }
 
-    fn forget<P: Past>(&self, alloc: Global, past: &mut P) -> Result<Vec<Entry>, Memory> {
+    fn forget<P: Past>(&self, alloc: Global, past: &mut P) -> Result<Forgotten, Memory> {
         past.forget(alloc)
     }
 
@@ -207,7 +208,7 @@ impl LoginBook for UserBook {
         Ok(())
     }
 
-    fn forget<P: Past>(&self, alloc: Global, past: &mut P) -> Result<Vec<Entry>, Memory> {
+    fn forget<P: Past>(&self, alloc: Global, past: &mut P) -> Result<Forgotten, Memory> {
         past.forget(alloc)
     }
 

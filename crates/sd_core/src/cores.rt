@@ -20,12 +20,11 @@ use crate::given::given_by;
 use crate::opens::is_open;
 use crate::replies::{reply_to, reply_to_collect};
 use crate::rulings::{Compiled, Ruling, Unkept, keep, ruling_by};
-use crate::text_bytes::of_entries;
 use sd_base::Memory;
-use sd_index::texts::of_event;
+use sd_index::texts::{of_entries, of_event};
 use sd_journal::requests::is_took;
 use sd_keeping::{OpenJournal, bad_row, opened};
-use sd_past::{IndexedPast, ListedPast, Past};
+use sd_past::{Forgotten, IndexedPast, ListedPast, Past};
 use sd_rules::{Entry, Event, Given, Journal, Key, Refused, Rows, Settings, StepFault};
 use std::alloc::Global;
 use std::marker::Model;
@@ -392,9 +391,12 @@ impl<P: Past, R: Ruling, L: LoginBook> EntryCore<P, R, L> {
         ensures back { IfOk result (λ dropped. reverse dropped ≡ needed.forgotten self.old.past) }
         ensures unchanged { OnErr result (self.new ≡ self.old) }
     {
-        let dropped = self.logins.forget(self.alloc, &mut self.past)?;
-        self.text_bytes = of_entries(self.past.list());
-        self.has_stopped = has_stopped(self.past.list());
+        let Forgotten {
+            dropped,
+            text_bytes,
+        } = self.logins.forget(self.alloc, &mut self.past)?;
+        // Whether a word to end came stays as it is, since the last one is kept.
+        self.text_bytes = self.text_bytes.saturating_sub(text_bytes);
         Ok(Journal::from(dropped))
     }
 }

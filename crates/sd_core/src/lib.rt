@@ -11,7 +11,6 @@ pub mod notes;
 pub mod opens;
 pub mod replies;
 pub mod rulings;
-pub mod text_bytes;
 
 pub use cores::{EntryCore, IndexedCore, Look, OpenFault, PlainCore};
 pub use daemon::Core;

@@ -178,6 +178,13 @@ impl Index {
         self.cache.newest(key)
     }
 
+    /// The newest answer of a key and its place among those that are kept, where it is looked for first right behind another place.
+    pub fn newest_behind(&self, place: usize, key: &Key) -> Option<(usize, &Newest)>
+        ensures { (past : List Entry) → Indexes past self.now → option_map (λ p. p.1.now) result ≡ option_map kept_of (journal.newest past key.now) }
+    {
+        self.cache.newest_behind(place, key)
+    }
+
     /// The number of the outage that stands at a moment.
     pub fn outage_at(&self, timeout: u32, moment: u64) -> Option<u64>
         ensures { (past : List Entry) → Indexes past self.now → result ≡ journal.outage_at timeout past moment }

@@ -1,9 +1,9 @@
-// How much text an event holds, in bytes, with eight more for each text. A sum past the greatest u64 stands still there.
-ghost use Rattle.std.specs.Prelude.{◌≡◌, ◌-◌, ◌^◌, min};
+// How much text events hold, in bytes, with eight more for each text. A sum past the greatest u64 stands still there.
+ghost use Rattle.std.specs.Prelude.{◌≡◌, ◌-◌, ◌^◌, min, reverse};
 ghost use Rattle.sd_rules.specs.TextBytes as bytes;
 
 use sd_keeping::text_bytes::{of_answered, of_key, of_row, of_text};
-use sd_rules::{Event, What};
+use sd_rules::{Entry, Event, What};
 
 fn of_what(what: &What) -> u64
     ensures { result ≡ min (bytes.bytes_of_what what.now) (2 ^ 64 - 1) }
@@ -29,4 +29,15 @@ pub fn of_event(event: &Event) -> u64
         Event::Kept(row) => of_row(row),
         _ => 0,
     }
+}
+
+/// The text bytes of all entries.
+pub fn of_entries(entries: &[Entry]) -> u64
+    ensures { result ≡ min (bytes.text_bytes (reverse entries.now)) (2 ^ 64 - 1) }
+{
+    let mut total = 0u64;
+    for place in 0..entries.len() {
+        total = total.saturating_add(of_event(&entries[place].event));
+    }
+    total
 }

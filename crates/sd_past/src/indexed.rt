@@ -8,9 +8,10 @@ ghost use Rattle.sd_forgetting.specs.Kept.{IsKeptOf};
 ghost use Rattle.sd_index.specs.Entries.{falls, numbers_fall};
 ghost use Rattle.sd_index.specs.Table.{Indexes, takes_none};
 ghost use Rattle.sd_past.specs.Closing.{closes_place, HasRoom};
+ghost use Rattle.sd_past.specs.Forgetting.{AreForgotten};
 
 use crate::found::record_by;
-use crate::past::Past;
+use crate::past::{Forgotten, Past};
 use crate::room::{make_room, with_room};
 use crate::standings::newest_by;
 use sd_base::{Memory, Shared};
@@ -138,12 +139,12 @@ fn forget_indexed(
     hasher: Primed,
     entries: &mut Vec<Entry>,
     index: &mut Index,
-) -> Result<Vec<Entry>, Memory>
+) -> Result<Forgotten, Memory>
     requires indexes { Indexes (reverse entries.old.items) index.old }
     requires shown { IsKeptOf (reverse entries.old.items) (needed.needed (reverse entries.old.items)) }
     requires room { HasRoom (reverse entries.old.items) (vec_capacity entries.old) }
     ensures kept { OnOk result (reverse entries.new.items ≡ needed.needed (reverse entries.old.items)) }
-    ensures back { IfOk result (λ dropped. reverse dropped.items ≡ needed.forgotten (reverse entries.old.items)) }
+    ensures back { IfOk result (λ made. AreForgotten (reverse entries.old.items) made) }
     ensures unchanged { OnErr result (entries.new.items ≡ entries.old.items) }
     ensures indexes { Indexes (reverse entries.new.items) index.new }
     ensures room { HasRoom (reverse entries.new.items) (vec_capacity entries.new) }
@@ -151,10 +152,17 @@ fn forget_indexed(
     let Plan { marks, remade } = plan_of(alloc, hasher, entries.as_slice(), index)?;
     let kept = room_of(alloc, entries.as_slice(), index)?;
     let all = mem::replace(entries, Vec::new(alloc));
-    let Sifted { kept, dropped } = sift(all, marks.as_slice(), kept);
+    let Sifted {
+        kept,
+        dropped,
+        text_bytes,
+    } = sift(all, marks.as_slice(), kept);
     *entries = kept;
     index.remake(remade);
-    Ok(dropped)
+    Ok(Forgotten {
+        dropped,
+        text_bytes,
+    })
 }
 
 impl Past for IndexedPast {
@@ -223,7 +231,7 @@ impl Past for IndexedPast {
         put_indexed(&mut self.entries, &mut self.index, entry)
     }
 
-    fn forget(&mut self, alloc: Global) -> Result<Vec<Entry>, Memory> {
+    fn forget(&mut self, alloc: Global) -> Result<Forgotten, Memory> {
         forget_indexed(alloc, self.hasher, &mut self.entries, &mut self.index)
     }
 }

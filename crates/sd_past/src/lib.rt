@@ -10,4 +10,4 @@ pub mod standings;
 
 pub use indexed::IndexedPast;
 pub use listed::ListedPast;
-pub use past::Past;
+pub use past::{Forgotten, Past};

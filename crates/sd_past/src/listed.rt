@@ -7,9 +7,10 @@ ghost use Rattle.sd_index.specs.Entries.{numbers_fall};
 ghost use Rattle.sd_past.specs.Closing.{closes_place, HasRoom};
 
 use crate::found::record_at;
-use crate::past::Past;
+use crate::past::{Forgotten, Past};
 use crate::room::{copied, make_room, with_room};
 use sd_base::{Memory, Shared};
+use sd_index::texts::of_entries;
 use sd_journal::past::{Standing, newest, outage_at};
 use sd_journal::requests::{is_open, is_open_attempt, is_open_request, reserved_places, waits_for};
 use sd_journal::{answers, past, servers};
@@ -143,12 +144,16 @@ impl Past for ListedPast {
         put_listed(&mut self.entries, entry)
     }
 
-    fn forget(&mut self, alloc: Global) -> Result<Vec<Entry>, Memory> {
+    fn forget(&mut self, alloc: Global) -> Result<Forgotten, Memory> {
         let dropped = forgotten(alloc, self.entries.as_slice())?;
         let dropped = copied(alloc, dropped.items())?;
         let kept = needed(alloc, self.entries.as_slice())?;
         let kept = copied(alloc, kept.items())?;
         self.keep(kept);
-        Ok(dropped)
+        let text_bytes = of_entries(dropped.as_slice());
+        Ok(Forgotten {
+            dropped,
+            text_bytes,
+        })
     }
 }

@@ -14,12 +14,22 @@ ghost use Rattle.sd_forgetting.specs.Kept.{IsKeptOf};
 ghost use Rattle.sd_index.specs.Entries.{falls, numbers_fall};
 ghost use Rattle.sd_index.specs.Table.{takes_none};
 ghost use Rattle.sd_past.specs.Closing.{closes_place};
+ghost use Rattle.sd_past.specs.Forgetting.{AreForgotten};
 ghost use Rattle.sd_rows.specs.Kept.{Keeps};
 
 use sd_base::{Memory, Shared};
 use sd_journal::past::Standing;
 use sd_rules::{Entry, Event, Key, Record, Reply, Rows, Settings};
 use std::alloc::Global;
+
+/// What a forget hands back.
+#[derive(Drop)]
+pub struct Forgotten {
+    /// The entries, the oldest first.
+    pub dropped: Vec<Entry>,
+    /// How much text they hold, in bytes, with eight more for each text.
+    pub text_bytes: u64,
+}
 
 /// The entries made so far, whose numbers rise.
 pub trait Past: Drop {
@@ -91,9 +101,9 @@ pub trait Past: Drop {
 
     /// Forgets the entries that no later event can look at, and hands them back, the oldest first. What is kept shows all that the
     /// whole does.
-    fn forget(&mut self, alloc: Global) -> Result<Vec<Entry>, Memory>
+    fn forget(&mut self, alloc: Global) -> Result<Forgotten, Memory>
         requires shown { IsKeptOf (entries self.old) (needed.needed (entries self.old)) }
         ensures kept { OnOk result (entries self.new ≡ needed.needed (entries self.old)) }
-        ensures back { IfOk result (λ dropped. reverse dropped.items ≡ needed.forgotten (entries self.old)) }
+        ensures back { IfOk result (λ made. AreForgotten (entries self.old) made) }
         ensures unchanged { OnErr result (entries self.new ≡ entries self.old) };
 }

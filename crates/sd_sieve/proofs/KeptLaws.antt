@@ -1,8 +1,9 @@
 -- The entries that a forget keeps, one entry of the journal after another.
-use Rattle.std.proofs.Common.{◌≡◌, ℕ, ◌+◌, ◌<◌, ◌≤◌, Bool, true, false, cond, nat_lt, List, [], ◌∷◌, ◌++◌, reverse, length, get_or, take, refl, sym, ◌∙◌, ap, arith}
+use Rattle.std.proofs.Common.{◌≡◌, ℕ, ◌+◌, ◌-◌, ◌^◌, ◌<◌, ◌≤◌, min, Bool, true, false, cond, nat_lt, List, [], ◌∷◌, ◌++◌, reverse, length, get_or, take, refl, sym, ◌∙◌, ap, arith}
 use Rattle.std.proofs.lemmas.List.{reverse-append, take_more, length_push}
 use Rattle.sd_rules.specs.declared.replies.Entry.{Entry}
 use Rattle.sd_rules.specs.Needed.{is_needed, needed_among, forgotten_among}
+use Rattle.sd_rules.specs.TextBytes.{bytes_of_event, text_bytes}
 use Rattle.sd_index.specs.Entries.{falls, numbers_fall}
 use Rattle.sd_index.proofs.FallLaws.{head_below, tail_falls, fall_further, both_of_two, tests_less}
 use Rattle.sd_index.proofs.Halves.{numbers_before}
@@ -108,3 +109,20 @@ sifted_more whole left new kept longer ms count further i e b d marks lt s at ma
           ∙ ap (λ (n : ℕ). length (cond b (kept ++ e ∷ []) kept) + n) more_is.many
           ∙ put_many b kept e count i many;
     }
+
+-- how much text is handed back, with one entry more
+texts_by : (b : Bool) (total n grown : ℕ) (e : Entry) (zs : List Entry) → n ≡ cond b 0 (min (bytes_of_event e.event) (2 ^ 64 - 1)) → grown ≡ min (total + n) (2 ^ 64 - 1)
+    → total ≡ min (text_bytes zs) (2 ^ 64 - 1) → grown ≡ min (text_bytes (cond b zs (e ∷ zs))) (2 ^ 64 - 1)
+texts_by true total n grown e zs is sum so = omega (arith, is, sum, so)
+texts_by false total n grown e zs is sum so = omega (arith, is, sum, so)
+
+pub texts_more : (whole : List Entry) (ms : List Bool) (i : ℕ) (e : Entry) (b d : Bool) (total n grown : ℕ) → MarkNeeded whole ms → i < length whole → e ≡ get_or whole i e
+    → b ≡ get_or ms i d → n ≡ cond b 0 (min (bytes_of_event e.event) (2 ^ 64 - 1)) → grown ≡ min (total + n) (2 ^ 64 - 1)
+    → total ≡ min (text_bytes (forgotten_among (reverse whole) (reverse (take i whole)))) (2 ^ 64 - 1)
+    → grown ≡ min (text_bytes (forgotten_among (reverse whole) (reverse (take (i + 1) whole)))) (2 ^ 64 - 1)
+texts_more whole ms i e b d total n grown marks lt at mark bytes sum so =
+    let is : is_needed (reverse whole) (reverse (take i whole)) e ≡ b = sym (mark ∙ needed_at whole ms i e d marks lt at) in
+    let zs : List Entry = forgotten_among (reverse whole) (reverse (take i whole)) in
+    texts_by b total n grown e zs bytes sum so
+    ∙ ap (λ (c : Bool). min (text_bytes (cond c zs (e ∷ zs))) (2 ^ 64 - 1)) (sym is)
+    ∙ sym (ap (λ (xs : List Entry). min (text_bytes (forgotten_among (reverse whole) xs)) (2 ^ 64 - 1)) (one_more whole i e lt at))

@@ -9,3 +9,4 @@ pub mod UserLaws
 pub mod ServerLaws
 pub mod SinceLaws
 pub mod CoverLaws
+mod PlainLaws

@@ -3,9 +3,10 @@ use Rattle.std.proofs.Common.{◌≡◌, ℕ, ◌+◌, ◌-◌, ◌<◌, Bool, L
 use Rattle.std.proofs.lemmas.List.{reverse-append, length-reverse, take_more, take-append-drop, drop_at}
 use Rattle.sd_rules.specs.declared.replies.Entry.{Entry}
 use Rattle.sd_rules.specs.Needed.{is_newest_answer, is_looked_at, is_needed}
-use Rattle.sd_sieve.specs.Briefs.{brief_of, AreBriefs}
+use Rattle.sd_sieve.specs.Briefs.{offset_of, traits_of, AreBriefs}
 use Rattle.sd_sieve.specs.Marks.{marks, MarkNewest, MarkLooked, MarkNeeded}
-use Rattle.sd_sieve.specs.declared.briefs.Brief.{Brief}
+use Rattle.sd_sieve.specs.declared.briefs.Briefs.{Briefs}
+use Rattle.sd_sieve.specs.declared.briefs.Traits.{Traits}
 
 -- a list from a place on, the last first
 rest_turned : {X : Type 0} (xs : List X) (i : ℕ) (d : X) → i < length xs → drop (length xs - (i + 1)) (reverse xs) ≡ get_or xs i d ∷ reverse (take i xs)
@@ -56,8 +57,11 @@ pub needed_at : (es : List Entry) (ms : List Bool) (i : ℕ) (e : Entry) (d : Bo
     → get_or ms i d ≡ is_needed (reverse es) (reverse (take i es)) e
 needed_at es ms i e d h lt at = mark_at (is_needed (reverse es)) es ms i e d h lt at
 
-pub brief_at : (es : List Entry) (bs : List Brief) (i : ℕ) (e : Entry) (d : Brief) → AreBriefs es bs → i < length es → e ≡ get_or es i e → get_or bs i d ≡ brief_of e
-brief_at es bs i e d h lt at = mark_at (λ (past : List Entry) (e : Entry). brief_of e) es bs i e d h lt at
+pub offset_at : (es : List Entry) (b : Briefs) (i : ℕ) (e : Entry) (d : ℕ) → AreBriefs es b → i < length es → e ≡ get_or es i e → get_or b.offsets.items i d ≡ offset_of b.first e.number
+offset_at es b i e d h lt at = mark_at (λ (past : List Entry) (e : Entry). offset_of b.first e.number) es b.offsets.items i e d h.offsets lt at
+
+pub traits_at : (es : List Entry) (b : Briefs) (i : ℕ) (e : Entry) (d : Traits) → AreBriefs es b → i < length es → e ≡ get_or es i e → get_or b.traits.items i d ≡ traits_of e
+traits_at es b i e d h lt at = mark_at (λ (past : List Entry) (e : Entry). traits_of e) es b.traits.items i e d h.traits lt at
 
 -- there are as many marks as entries
 pub newest_long : (es : List Entry) (ms : List Bool) → MarkNewest es ms → length ms ≡ length es
@@ -69,5 +73,8 @@ looked_long es ms h = as_many (is_looked_at (reverse es)) es ms h
 pub needed_long : (es : List Entry) (ms : List Bool) → MarkNeeded es ms → length ms ≡ length es
 needed_long es ms h = as_many (is_needed (reverse es)) es ms h
 
-pub briefs_long : (es : List Entry) (bs : List Brief) → AreBriefs es bs → length bs ≡ length es
-briefs_long es bs h = as_many (λ (past : List Entry) (e : Entry). brief_of e) es bs h
+pub offsets_long : (es : List Entry) (b : Briefs) → AreBriefs es b → length b.offsets.items ≡ length es
+offsets_long es b h = as_many (λ (past : List Entry) (e : Entry). offset_of b.first e.number) es b.offsets.items h.offsets
+
+pub traits_long : (es : List Entry) (b : Briefs) → AreBriefs es b → length b.traits.items ≡ length es
+traits_long es b h = as_many (λ (past : List Entry) (e : Entry). traits_of e) es b.traits.items h.traits

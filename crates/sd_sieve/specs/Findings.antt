@@ -69,4 +69,4 @@ pub record IsFound (entries : List Entry) (f : Findings) : Type 0 where
   pub outage : f.walk.notes.outage ≡ last_outage (reverse entries)
   pub online : f.walk.notes.online ≡ last_where (λ (x : Entry). is_online x.event) (reverse entries)
   pub stop : f.walk.notes.stop ≡ last_where (λ (x : Entry). is_stop x.event) (reverse entries)
-  pub briefs : AreBriefs entries f.walk.briefs.items
+  pub briefs : AreBriefs entries f.walk.briefs

@@ -1,8 +1,7 @@
 -- What a walk over a whole journal finds. All are its entries, the newest first.
-use Rattle.std.specs.Prelude.{◌≡◌, List, reverse}
+use Rattle.std.specs.Prelude.{List}
 use Rattle.sd_rules.specs.declared.replies.Entry.{Entry}
-use Rattle.sd_sieve.specs.Briefs.{brief_of}
-use Rattle.sd_sieve.specs.Marks.{marks}
+use Rattle.sd_sieve.specs.Briefs.{AreBriefsOf}
 use Rattle.sd_sieve.specs.Notes.{AreNotesOf}
 use Rattle.sd_sieve.specs.Outlines.{IsOutlineOf}
 use Rattle.sd_sieve.specs.declared.walk.Walk.{Walk}
@@ -11,4 +10,4 @@ use Rattle.sd_sieve.specs.declared.walk.Walk.{Walk}
 pub record IsWalkOf (all part : List Entry) (w : Walk) : Type 0 where
   pub outline : IsOutlineOf all part w.outline
   pub notes : AreNotesOf all part w.notes
-  pub briefs : reverse w.briefs.items ≡ marks (λ past e. brief_of e) part
+  pub briefs : AreBriefsOf part w.briefs

@@ -30,6 +30,33 @@ fn is_newest_of(whole: Whole<'_>, number: u64, key: &Key) -> bool
     is_number_kept(number, whole.index.newest(key))
 }
 
+fn is_found_kept(number: u64, found: Option<(usize, &Newest)>) -> bool
+    ensures { result ≡ findings.is_number_kept number (option_map (λ p. p.1.now) found.entry) }
+{
+    match found {
+        Some((_, newest)) => newest.number == number,
+        None => false,
+    }
+}
+
+/// Goes to the place where an answer was found.
+fn go_near(near: &mut usize, found: Option<(usize, &Newest)>) {
+    if let Some((place, _)) = found {
+        *near = place;
+    }
+}
+
+/// Whether the answer of a number is the newest of its own key. It is looked for first behind the one before: the index has its keys
+/// in the order in which they came.
+fn is_newest_of_own(whole: Whole<'_>, number: u64, key: &Key, near: &mut usize) -> bool
+    requires { held.IsIndexed whole }
+    ensures { result ≡ needed.is_newest_of (held.past_of whole.entry) number key.now }
+{
+    let found = whole.index.newest_behind(*near, key);
+    go_near(near, found);
+    is_found_kept(number, found)
+}
+
 fn is_newest_of_two(whole: Whole<'_>, number: u64, name: &Key, id: &Key) -> bool
     requires { held.IsIndexed whole }
     ensures { result ≡ list_any (λ key. needed.is_newest_of (held.past_of whole.entry) number key) (name.now ∷ id.now ∷ []) }
@@ -62,11 +89,12 @@ fn is_newest_of_answered(
     number: u64,
     own: &Key,
     answered: &Answered,
+    near: &mut usize,
 ) -> Result<bool, Memory>
     requires { held.IsIndexed whole }
     ensures { IfOk result (λ is. is ≡ list_any (λ key. needed.is_newest_of (held.past_of whole.entry) number key) (needed.keys_of_answer own.now answered.now)) }
 {
-    if is_newest_of(whole, number, own) {
+    if is_newest_of_own(whole, number, own, near) {
         return Ok(true);
     }
     match answered {
@@ -76,24 +104,30 @@ fn is_newest_of_answered(
 }
 
 /// Whether an answer, where there is one, is the newest of a key of which it speaks.
-fn is_newest_of_some(whole: Whole<'_>, answer: Option<Standing<'_>>) -> Result<bool, Memory>
+fn is_newest_of_some(
+    whole: Whole<'_>,
+    answer: Option<Standing<'_>>,
+    near: &mut usize,
+) -> Result<bool, Memory>
     requires { held.IsIndexed whole }
     ensures { IfOk result (λ is. is ≡ needed.is_newest_of_some (held.past_of whole.entry) (option_map seen.standing answer.entry)) }
 {
     match answer {
-        Some(a) => is_newest_of_answered(whole, a.number, a.own, a.answered),
+        Some(a) => is_newest_of_answered(whole, a.number, a.own, a.answered, near),
         None => Ok(false),
     }
 }
 
-/// Whether an entry holds the newest answer of a key; `before` are the entries before it.
+/// Whether an entry holds the newest answer of a key; `before` are the entries before it. `near` is the place in the index of the
+/// last answer that was found there.
 pub(crate) fn is_newest_answer(
     whole: Whole<'_>,
     before: &[Entry],
     entry: &Entry,
+    near: &mut usize,
 ) -> Result<bool, Memory>
     requires { held.IsIndexed whole }
     ensures { IfOk result (λ is. is ≡ needed.is_newest_answer (held.past_of whole.entry) (reverse before.now) entry.now) }
 {
-    is_newest_of_some(whole, answer_in(before, entry))
+    is_newest_of_some(whole, answer_in(before, entry), near)
 }

@@ -178,8 +178,8 @@ fn is_found_looked_at(whole: Whole<'_>, found: &Findings, place: usize, entry: &
     requires at { entry.now ≡ slice_index_or whole.entries.now place entry.now }
     ensures { result ≡ needed.is_looked_at (held.past_of whole.entry) (reverse (take place whole.entry.entries.now)) entry.now }
 {
-    let brief = brief_at(whole.entries, found.walk.briefs.as_slice(), place, entry);
-    if brief.is_plain {
+    let brief = brief_at(whole.entries, &found.walk.briefs, place, entry);
+    if brief.traits.is_plain {
         is_number_looked_at(whole, found, brief.number)
     } else {
         is_looked_at(whole, found, place, entry)
@@ -193,7 +193,7 @@ pub fn looked_of(alloc: Global, whole: Whole<'_>, found: &Findings) -> Result<Lo
     ensures { IfOk result (λ made. readings.AreLooked (held.past_of whole.entry) (held.past_of whole.entry) made) }
 {
     let all = whole.entries;
-    let mut looked = none_looked(alloc);
+    let mut looked = none_looked(alloc, all.len())?;
     for place in 0..all.len() {
         let entry = &all[place];
         let is_read = is_found_looked_at(whole, found, place, entry);

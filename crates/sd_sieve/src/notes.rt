@@ -1,7 +1,8 @@
 // What is noted of each entry for a forget, beside the outline of the journal.
-ghost use Rattle.std.specs.Prelude.{◌≡◌, ◌∷◌, [], ℕ, List, OnOk, Some, None, if◌then◌else◌};
+ghost use Rattle.std.specs.Prelude.{◌≡◌, ◌∷◌, [], ℕ, List, true, OnOk, Some, None, if◌then◌else◌};
 ghost use Rattle.sd_rules.specs.declared.replies.Entry.{Entry};
 ghost use Rattle.sd_rules.specs.Past as past;
+ghost use Rattle.sd_sieve.specs.Briefs.{is_plain};
 ghost use Rattle.sd_sieve.specs.Findings as findings;
 ghost use Rattle.sd_sieve.specs.Notes.{AreNotesOf};
 ghost use Rattle.sd_sieve.specs.Whole as held;
@@ -97,5 +98,18 @@ pub(crate) fn note(notes: &mut Notes, whole: Whole<'_>, entry: &Entry) -> Result
     notes.outage = outage_after(notes.outage, entry);
     note_last(&mut notes.online, is_online(&entry.event), entry.number);
     note_last(&mut notes.stop, is_stop(&entry.event), entry.number);
+    Ok(())
+}
+
+/// Notes a plain entry: what it is asked for, and an outage.
+#[tactic(auto, using(crate::proofs::PlainLaws::voids_plain, crate::proofs::PlainLaws::online_plain, crate::proofs::PlainLaws::stop_plain))]
+pub(crate) fn note_plain(notes: &mut Notes, whole: Whole<'_>, entry: &Entry) -> Result<(), Memory>
+    requires index { held.IsIndexed whole }
+    requires plain { is_plain entry.now.event ≡ true }
+    ensures { OnOk result ((part : List Entry) → AreNotesOf (held.past_of whole.entry) part notes.old → AreNotesOf (held.past_of whole.entry) (entry.now ∷ part) notes.new) }
+{
+    put(&mut notes.askings, asking_of(whole, entry.number))?;
+    put_awaited(&mut notes.awaited, whole, entry.number)?;
+    notes.outage = outage_after(notes.outage, entry);
     Ok(())
 }

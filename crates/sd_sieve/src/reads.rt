@@ -1,12 +1,12 @@
 // What is read with the entries that are looked at.
-ghost use Rattle.std.specs.Prelude.{◌≡◌, ◌<◌, ◌∷◌, [], ℕ, List, length, reverse, take, slice_index_or, OnOk, None};
+ghost use Rattle.std.specs.Prelude.{◌≡◌, ◌<◌, ◌∷◌, [], ℕ, List, length, reverse, take, slice_index_or, IfOk, OnOk, None};
 ghost use Rattle.sd_rules.specs.declared.replies.Entry.{Entry};
 ghost use Rattle.sd_rules.specs.Needed as needed;
 ghost use Rattle.sd_sieve.specs.Briefs as briefs;
 ghost use Rattle.sd_sieve.specs.Findings.{is_among};
 ghost use Rattle.sd_sieve.specs.Readings as readings;
 
-use crate::briefs::{Brief, brief_at, request_again};
+use crate::briefs::{Brief, Briefs, brief_at, request_again};
 use crate::marks::is_looked_at;
 use crate::numbers::{Numbers, has, note};
 use indexmap::IndexSet;
@@ -75,14 +75,16 @@ impl Drop for Looked {
     }
 }
 
-pub(crate) fn none_looked(alloc: Global) -> Looked
-    ensures { (all : List Entry) → readings.AreLooked all [] result }
+/// Nothing is looked at yet, with room for the marks of so many entries.
+pub(crate) fn none_looked(alloc: Global, count: usize) -> Result<Looked, Memory>
+    ensures { IfOk result (λ made. (all : List Entry) → readings.AreLooked all [] made) }
 {
-    Looked {
-        marks: Vec::new(alloc),
+    let marks = Vec::with_capacity(alloc, count)?;
+    Ok(Looked {
+        marks,
         leads: IndexSet::new(alloc),
         answers: IndexSet::new(alloc),
-    }
+    })
 }
 
 /// Notes an entry, which is looked at or not, and is read only if it is.
@@ -121,14 +123,15 @@ fn is_read_with(all: &[Entry], looked: &Looked, brief: Brief, entry: &Entry) -> 
     requires answers { (n : ℕ) → is_among n looked.now.answers.keys ≡ readings.reads_answer (reverse all.now) n (reverse all.now) }
     ensures { result ≡ needed.is_read_with (reverse all.now) entry.now (reverse all.now) }
 {
-    has(&looked.leads, brief.number) || (brief.is_again && is_again_at(all, &looked.answers, entry))
+    has(&looked.leads, brief.number)
+        || (brief.traits.is_again && is_again_at(all, &looked.answers, entry))
 }
 
 /// Whether the entry at a place is needed, by those that are looked at; `made` are the briefs of all. An entry that is not is as a rule
 /// not read for it.
 pub(crate) fn is_needed_by(
     all: &[Entry],
-    made: &[Brief],
+    made: &Briefs,
     looked: &Looked,
     place: usize,
     entry: &Entry,

@@ -1,7 +1,8 @@
 // The forget: what it will do, and its doing, which moves each entry once and takes no memory.
-ghost use Rattle.std.specs.Prelude.{◌≡◌, ◌++◌, ◌∷◌, ◌+◌, ◌<◌, ◌≤◌, ℕ, List, [], true, length, reverse, take, vec_capacity, slice_index_or, IfOk, OnOk, if◌then◌else◌};
+ghost use Rattle.std.specs.Prelude.{◌≡◌, ◌++◌, ◌∷◌, ◌+◌, ◌-◌, ◌^◌, ◌<◌, ◌≤◌, min, ℕ, List, [], true, length, reverse, take, vec_capacity, slice_index_or, IfOk, OnOk, if◌then◌else◌};
 ghost use Rattle.sd_rules.specs.declared.replies.Entry.{Entry};
 ghost use Rattle.sd_rules.specs.Needed as needed;
+ghost use Rattle.sd_rules.specs.TextBytes as bytes;
 ghost use Rattle.sd_index.specs.Entries.{falls, numbers_fall};
 ghost use Rattle.sd_index.specs.Table.{Indexes, Remakes};
 ghost use Rattle.sd_sieve.specs.Briefs.{AreBriefs};
@@ -12,13 +13,14 @@ ghost use Rattle.sd_sieve.specs.Readings.{AreLooked};
 ghost use Rattle.sd_sieve.specs.Sifting.{SiftsAt};
 ghost use Rattle.sd_sieve.specs.Whole as held;
 
-use crate::briefs::Brief;
+use crate::briefs::Briefs;
 use crate::findings::{Findings, find};
 use crate::looked::looked_of;
 use crate::reads::{Looked, is_needed_by};
 use crate::whole::Whole;
 use sd_base::Memory;
 use sd_cache::Primed;
+use sd_index::texts::of_event;
 use sd_index::{Index, Remade};
 use sd_rules::{Entry, Event, Reply};
 use std::alloc::Global;
@@ -47,7 +49,7 @@ fn planned(
     alloc: Global,
     hasher: Primed,
     entries: &[Entry],
-    made: &[Brief],
+    made: &Briefs,
     looked: &Looked,
 ) -> Result<Plan, Memory>
     requires numbers { falls (reverse entries.now) ≡ true }
@@ -55,7 +57,8 @@ fn planned(
     requires looked { AreLooked (reverse entries.now) (reverse entries.now) looked.now }
     ensures { IfOk result (IsPlanOf entries.now) }
 {
-    let (mut marks, mut remade) = (Vec::new(alloc), Remade::new(alloc, hasher));
+    let mut marks = Vec::with_capacity(alloc, entries.len())?;
+    let mut remade = Remade::new(alloc, hasher);
     for place in 0..entries.len() {
         let entry = &entries[place];
         let is_kept = is_needed_by(entries, made, looked, place, entry);
@@ -77,8 +80,7 @@ fn planned_by(
     ensures { IfOk result (IsPlanOf whole.entry.entries.now) }
 {
     let looked = looked_of(alloc, whole, found)?;
-    let made = found.walk.briefs.as_slice();
-    planned(alloc, hasher, whole.entries, made, &looked)
+    planned(alloc, hasher, whole.entries, &found.walk.briefs, &looked)
 }
 
 /// Plans a forget of a journal whose index this is. It reads most entries once, and never goes over all of them for each.
@@ -156,6 +158,15 @@ fn sift_at(
 pub struct Sifted {
     pub kept: Vec<Entry>,
     pub dropped: Vec<Entry>,
+    /// How much text is handed back, in bytes, with eight more for each text.
+    pub text_bytes: u64,
+}
+
+/// The text bytes of an entry that is handed back.
+fn bytes_back(is_kept: bool, entry: &Entry) -> u64
+    ensures { result ≡ (if is_kept then 0 else min (bytes.bytes_of_event entry.now.event) (2 ^ 64 - 1)) }
+{
+    if is_kept { 0 } else { of_event(&entry.event) }
 }
 
 /// Moves the entries of a journal that are kept, by their marks, to a list that has room for them, and closes up those that are handed
@@ -166,15 +177,19 @@ pub fn sift(mut entries: Vec<Entry>, marks: &[bool], mut kept: Vec<Entry>) -> Si
     requires room { length entries.items ≤ vec_capacity kept }
     ensures kept { reverse result.kept.items ≡ needed.needed (reverse entries.items) }
     ensures dropped { reverse result.dropped.items ≡ needed.forgotten (reverse entries.items) }
+    ensures texts { result.text_bytes ≡ min (bytes.text_bytes (needed.forgotten (reverse entries.items))) (2 ^ 64 - 1) }
     ensures room { vec_capacity result.kept ≡ vec_capacity kept }
 {
-    let mut count = 0;
+    let (mut count, mut text_bytes) = (0, 0u64);
     for place in 0..entries.len() {
-        count = sift_at(marks[place], place, &mut kept, &mut entries, count);
+        let is_kept = marks[place];
+        text_bytes = text_bytes.saturating_add(bytes_back(is_kept, &entries[place]));
+        count = sift_at(is_kept, place, &mut kept, &mut entries, count);
     }
     entries.truncate(count);
     Sifted {
         kept,
         dropped: entries,
+        text_bytes,
     }
 }

@@ -5,7 +5,7 @@ use Rattle.sd_sieve.proofs.CoverLaws.{more_at}
 use Rattle.sd_sieve.proofs.outline.outline_of.Goals as goal
 
 pub loop-place-init : goal.loop-place-init
-loop-place-init c = c.nothing-outline.ensures (reverse c.args.whole.entries.now)
+loop-place-init c = c.in_ok-outline.ensures (reverse c.args.whole.entries.now)
 
 pub loop-place-preserved : goal.loop-place-preserved
 loop-place-preserved c =

@@ -1,4 +1,4 @@
 use Rattle.sd_sieve.proofs.walk.walk_over.Goals as goal
 
 pub returns : goal.returns
-returns c = c.in_ok-pass_all.ensures (c.begin-walk.ensures _)
+returns c = c.in_ok-pass_all.ensures (c.in_ok-walk.ensures _)
