@@ -31,6 +31,7 @@ abbrev pub request_again : Event → Reply → Option ℕ
 request_again (Answer request answered) reply = if is_again reply then Some request else None
 request_again _ reply = None
 
+-- what is asked of an entry beside its number
 abbrev pub traits_of : Entry → Traits
 traits_of e = record { is_plain = is_plain e.event; is_again = is_some (request_again e.event e.reply) }
 

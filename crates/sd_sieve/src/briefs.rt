@@ -34,7 +34,7 @@ pub struct Briefs {
     pub traits: Vec<Traits>,
 }
 
-/// What is kept of a number that is as far from the first, or farther: the entry itself is read for it.
+/// What is kept of a number that is as far from the first, farther, or below it: the entry itself is read for it.
 const FAR: u32 = u32::MAX;
 
 /// Whether an entry of this event is looked at for its number alone, and says nothing of answers, users or servers.
