@@ -10,7 +10,7 @@ use Rattle.sd_ldap.specs.Values.{MessageValue}
 use Rattle.sd_ldap.specs.MessageReading.{whole, unfinished, wrong, message_in, decode_of}
 use Rattle.sd_ldap.proofs.Cuts.{stays}
 use Rattle.sd_client.specs.Waiting.{is_waiting}
-use Rattle.sd_client.proofs.Sizes.{used_within}
+use Rattle.sd_ldap.proofs.Sizes.{used_within}
 use Rattle.sd_client.proofs.Steps.{waiting_is}
 
 -- the tag of a message, the octets of a length, and contents

@@ -9,7 +9,7 @@ use Rattle.sd_client.specs.declared.step.Step.{Step}
 use Rattle.sd_client.specs.declared.step.Step.TheVariants.{Waits, Passed, Found, Ended, Failed}
 use Rattle.sd_client.specs.Waiting.{IsWithin, is_waiting}
 use Rattle.sd_client.specs.Heard.{operation_heard, message_heard, step_of}
-use Rattle.sd_client.proofs.Sizes.{used_within}
+use Rattle.sd_ldap.proofs.Sizes.{used_within}
 
 operation_within : (request : Request) (used count : ℕ) (operation : OperationValue) → (0 < used) × (used ≤ count) → IsWithin (operation_heard request used operation) count
 operation_within requests.Search used count (entry found) h = h

@@ -4,4 +4,5 @@ pub mod Levels
 pub mod Again
 pub mod FilterAgain
 pub mod MessageAgain
+pub mod Sizes
 pub mod Cuts

@@ -93,7 +93,8 @@ operation_again at op more sound small =
     let c = contents_again at p.start op sound (omega (arith, longer (operation_tag op) (operation_contents op))) in
     record { place = p.place; read = rw (p.read, c) refl }
 
-message_again : (at : ℕ) (m : MessageValue) → IsSound m → length (content_bytes m) < 2 ^ 32 → message_in (reading_of at (content_bytes m)) ≡ Ok m
+-- the contents of a message, wherever they stand
+pub message_again : (at : ℕ) (m : MessageValue) → IsSound m → length (content_bytes m) < 2 ^ 32 → message_in (reading_of at (content_bytes m)) ≡ Ok m
 unfolding message_in
 message_again at m sound small =
     let l = length-append (number_bytes 2 m.id) (operation_bytes m.operation) in

@@ -6,7 +6,7 @@ use Rattle.sd_ldap.specs.MessageReading.{DecodedValue, whole, unfinished, wrong,
 use Rattle.sd_ldap.proofs.Cuts.{stays}
 use Rattle.sd_stub.specs.declared.ending.LinkEnd.TheVariants as ends
 use Rattle.sd_stub.specs.Saying.{Said, nothing, is_unbind, with_message, by_front, said_from}
-use Rattle.sd_stub.proofs.Sizes.{used_within}
+use Rattle.sd_ldap.proofs.Sizes.{used_within}
 
 -- bytes of a message that was heard are passed over
 passed_over : (place within : ℕ) (bytes : List ℕ) → said_from place within bytes ≡ said_from (place + within) 0 (drop within bytes)

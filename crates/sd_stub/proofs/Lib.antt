@@ -7,7 +7,6 @@ mod Hashing
 mod Indexing
 mod Near
 mod Replies
-mod Sizes
 mod Hearing
 mod Passing
 mod Standing

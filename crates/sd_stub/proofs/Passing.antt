@@ -11,7 +11,7 @@ use Rattle.sd_ldap.specs.MessageReading.{DecodedValue, whole, unfinished, wrong,
 use Rattle.sd_match.specs.Answering.{reply_bytes}
 use Rattle.sd_stub.specs.Saying.{Said, is_unbind, said_from, answers}
 use Rattle.sd_stub.specs.Passing.{after, IsPassed, Passes}
-use Rattle.sd_stub.proofs.Sizes.{used_within}
+use Rattle.sd_ldap.proofs.Sizes.{used_within}
 use Rattle.sd_stub.proofs.Hearing.{passes_message}
 
 pub after_both : (a b : List MessageValue) (rest : Said) → after a (after b rest) ≡ after (a ++ b) rest

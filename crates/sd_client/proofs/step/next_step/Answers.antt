@@ -2,7 +2,7 @@ use Rattle.std.proofs.Common.{length, subst, sym}
 use Rattle.sd_ldap.specs.Values.{message_value}
 use Rattle.sd_client.specs.declared.step.Step.{Step}
 use Rattle.sd_client.specs.Waiting.{IsWithin}
-use Rattle.sd_client.proofs.Sizes.{used_within}
+use Rattle.sd_ldap.proofs.Sizes.{used_within}
 use Rattle.sd_client.proofs.Steps.{message_within}
 use Rattle.sd_client.proofs.step.next_step.Goals as goal
 
