@@ -1,26 +1,27 @@
 -- Two texts go on alike where the DNs that they spell are the same.
-use Rattle.std.proofs.Common.{◌≡◌, ℕ, zero, suc, ◌+◌, ◌<◌, ◌≤◌, Bool, true, false, cond, List, [], ◌∷◌, ◌++◌, length, take, drop, slice_index_or, add-one, length-drop, take_all, ◌-◌, Option, Some, None, option_map, refl, sym, ap, subst, ◌∙◌, append-nil, arith, true≢false, inl, inr}
-use Rattle.std.specs.Prelude.{◌==◌, ◌&&◌, ◌||◌, is_some, is_ok, Result, Ok, Err}
+use Rattle.std.proofs.Common.{◌≡◌, ℕ, zero, suc, ◌+◌, ◌<◌, Bool, true, false, cond, List, [], ◌∷◌, ◌++◌, length, take, drop, slice_index_or, add-one, length-drop, take_all, ◌-◌, Option, Some, None, option_map, refl, sym, ap, subst, ◌∙◌, arith, true≢false}
+use Rattle.std.specs.Prelude.{◌==◌, ◌&&◌, is_ok, Result, Ok, Err}
 use Rattle.std.specs.Option.{option_map_or}
 use Rattle.std.specs.Result.{result_ok}
-use Rattle.std.specs.Char.{is_ascii_hexdigit, eq_ignore_ascii_case, to_ascii_lowercase}
-use Rattle.std.proofs.lemmas.Bool.{or_parts, eq-eqb, ne_eqb}
+use Rattle.std.specs.Char.{is_ascii_hexdigit, eq_ignore_ascii_case}
+use Rattle.std.proofs.lemmas.Bool.{or_parts, ne_eqb}
 use Rattle.sd_dn.specs.declared.Pair.{Pair}
 use Rattle.sd_dn.specs.declared.texts.Symbol.{Symbol}
 use Rattle.sd_dn.specs.declared.texts.Symbol.TheVariants as symbols
 use Rattle.sd_dn.specs.declared.texts.Meeting.{Meeting}
 use Rattle.sd_dn.specs.declared.texts.Meeting.TheVariants as meetings
 use Rattle.sd_dn.specs.Bytes.{is_type_byte, is_reserved, is_special, hex_pair}
-use Rattle.sd_dn.specs.Comparing.{same_list, same_text, same_pair, same_rdn, same_dn}
-use Rattle.sd_dn.specs.Reading.{run, Start, is_dn, pair_made}
+use Rattle.sd_dn.specs.Comparing.{same_text, same_rdn, same_dn}
+use Rattle.sd_dn.specs.Reading.{run, Start, is_dn}
 use Rattle.sd_dn.specs.Texts.{spelled, both_meet, same_dn_text}
-use Rattle.sd_dn.specs.Remaining.{Rest, nothing, AtType, OnType, AtEquals, AtValue, OnValue, OnEscape, OnHex, named, named_all, renamed, begun, spaced, pair_of, new_pair, new_rdn, type_ends, remaining, starts_with_space, ends_pair, starts_with_type, behind_equals, on_value, said, is_byte, byte_meeting, meeting, met, same_head, same_tail}
+use Rattle.sd_dn.specs.Remaining.{Rest, nothing, AtType, OnType, AtEquals, AtValue, OnValue, OnEscape, OnHex, named, named_all, renamed, begun, spaced, pair_of, new_pair, new_rdn, remaining, starts_with_space, ends_pair, starts_with_type, on_value, said, is_byte, byte_meeting, meeting, met, same_head, same_tail}
 use Rattle.sd_dn.specs.Grammar.{Spells, Reads}
 use Rattle.sd_dn.specs.declared.DnFault.{DnFault}
 use Rattle.sd_dn.specs.declared.DnFault.TheVariants as faults
 use Rattle.sd_dn.proofs.Complete.{is_read}
 use Rattle.sd_dn.proofs.Sound.{is_spelled}
 use Rattle.sd_dn.proofs.Goes.{headed, spelled_start, spelled_space}
+use Rattle.sd_dn.proofs.Same.{self_dn}
 
 -- ---- types
 
@@ -336,19 +337,6 @@ both_filled (a ∷ rest) [] h g s t = absurd (true≢false g)
 both_filled (a ∷ rest) (b ∷ bs) h g s t = two_pairs a b rest bs s t
 
 -- ---- a text and itself
-
-same_self : {X : Type 0} (same : X → X → Bool) → ((x : X) → same x x ≡ true) → (xs : List X) → same_list same xs xs ≡ true
-same_self same h [] = refl
-same_self same h (x ∷ xs) = rw (h x) (same_self same h xs)
-
-same_byte : (b : ℕ) → eq_ignore_ascii_case b b ≡ true
-same_byte b = eq-eqb (to_ascii_lowercase b) (to_ascii_lowercase b) refl
-
-self_pair : (p : Pair) → same_pair p p ≡ true
-self_pair p = rw (same_self eq_ignore_ascii_case same_byte p.name) (same_self eq_ignore_ascii_case same_byte p.value)
-
-self_dn : (dn : List (List Pair)) → same_dn dn dn ≡ true
-self_dn dn = same_self same_rdn (λ rdn. same_self same_pair self_pair rdn) dn
 
 self_read : (r : Result (List (List Pair)) ℕ) → both_meet same_dn (result_ok r) (result_ok r) ≡ is_ok r
 self_read (Ok dn) = self_dn dn

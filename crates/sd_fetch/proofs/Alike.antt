@@ -17,7 +17,8 @@ use Rattle.sd_schema.specs.Access.{fitting_host, fitting_rule, fitting_service}
 use Rattle.sd_schema.specs.Places.{place_in, naming_of, names_in, names_at}
 use Rattle.sd_fetch.specs.Searches.{user_attributes, group_attributes, host_attributes, rule_attributes, service_attributes, first_search, rules_search, services_search}
 use Rattle.sd_fetch.specs.Lookup.{fits, user_of, group_of, host_of, rule_of, service_of}
-use Rattle.sd_fetch.proofs.Sent.{IsKept, says_sent, holds_sent, first_sent, like_sent, under_sent}
+use Rattle.sd_match.proofs.Sent.{IsKept, says_sent, first_sent}
+use Rattle.sd_fetch.proofs.Sent.{holds_sent, like_sent, under_sent}
 
 -- keys by which users are searched
 abbrev pub is_user_search : Key → Bool

@@ -1,5 +1,5 @@
 -- An entry that fits a key is found by the search for it.
-use Rattle.std.proofs.Common.{◌≡◌, ℕ, ◌<◌, ◌≤◌, ◌^◌, Bool, true, false, ◌&&◌, ◌||◌, List, [], ◌∷◌, length, Option, Some, None, Result, Ok, Err, refl, sym, ap, subst, ◌∙◌, cond, arith}
+use Rattle.std.proofs.Common.{◌≡◌, ℕ, ◌<◌, ◌^◌, Bool, true, false, ◌&&◌, ◌||◌, List, [], ◌∷◌, length, Option, Some, None, Result, Ok, Err, refl, sym, ap, subst, ◌∙◌, cond, arith}
 use Rattle.std.specs.Prelude.{nat_le, ◌==◌, codes}
 use Rattle.std.specs.List.{list_any, list_all, find, slice_get}
 use Rattle.std.specs.Option.{option_and_then}
@@ -8,6 +8,7 @@ use Rattle.std.specs.Cmp.Lexicographic.{bytes_decides}
 use Rattle.std.proofs.lemmas.Bool.{and_from, and_parts, eq-eqb, eqb-true, leb-true, le-leb}
 use Rattle.std.proofs.lemmas.Fmt.{decimal_nonempty}
 use Rattle.sd_dn.specs.Comparing.{same_text}
+use Rattle.sd_dn.proofs.Same.{self_text}
 use Rattle.sd_ldap.specs.declared.entry.Attribute.{Attribute}
 use Rattle.sd_ldap.specs.Filters.{equal}
 use Rattle.sd_ldap.specs.declared.entry.DirEntry.{DirEntry}
@@ -18,8 +19,8 @@ use Rattle.sd_rules.specs.Keys.{same_name}
 use Rattle.sd_conf.specs.declared.config.Config.{Config}
 use Rattle.sd_entry.specs.Values.{or_else, own_first, first_of, has_class, is_digit, value_of, is_number, number_of}
 use Rattle.sd_match.specs.Matching.{has_value, are_digits, equal_numbers, matches}
-use Rattle.sd_schema.specs.Values.{◌>>=◌, wanted, of_class, own_holds, holds, own_like, first_like, number_at}
-use Rattle.sd_schema.specs.Accounts.{held_name, equal_to, user_name, user_number, account_of, fitting_user, group_name, group_number, fitting_group}
+use Rattle.sd_schema.specs.Values.{◌>>=◌, wanted, own_holds, holds, own_like, first_like, number_at}
+use Rattle.sd_schema.specs.Accounts.{held_name, equal_to, user_name, account_of, fitting_user, group_name, fitting_group}
 use Rattle.sd_schema.specs.Access.{fitting_host}
 use Rattle.sd_nested.proofs.In.{any_more}
 use Rattle.sd_fetch.specs.Searches.{class_with, first_search}
@@ -41,10 +42,6 @@ wanted_fits name None f h = absurd cc
 wanted_fits name (Some x) f h = (x, refl, h)
 
 -- ---- values
-
-self_text : (text : List ℕ) → same_text text text ≡ true
-self_text [] = refl
-self_text (x ∷ xs) = and_from _ _ (eq-eqb _ _ refl) (self_text xs)
 
 pub letters_too : (a b : List ℕ) → same_name a b ≡ true → same_text a b ≡ true
 letters_too a b h = subst (λ (x : List ℕ). same_text a x ≡ true) ((bytes_decides a b).0 h) (self_text a)

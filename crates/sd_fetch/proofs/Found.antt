@@ -30,7 +30,8 @@ use Rattle.sd_fetch.specs.Lookup.{fits, found_as, fitting, one_of, looked_up, me
 use Rattle.sd_fetch.specs.Lookup as lookup
 use Rattle.sd_fetch.specs.Told.{where_one, further_searches, reads_under, reads_of}
 use Rattle.sd_fetch.specs.Further.{further_of, have_dns}
-use Rattle.sd_fetch.proofs.Sent.{says_sent, value_sent, members_sent}
+use Rattle.sd_match.proofs.Sent.{says_sent, value_sent}
+use Rattle.sd_fetch.proofs.Sent.{members_sent}
 use Rattle.sd_fetch.proofs.Fits.{fits_matched}
 use Rattle.sd_fetch.proofs.Alike.{group_keeps_class, group_keeps_member, fits_sent, is_user_search, user_of_sent, group_of_sent, host_of_sent}
 

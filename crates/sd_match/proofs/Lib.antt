@@ -2,3 +2,4 @@ mod Greedy
 mod Digits
 mod Order
 mod Presence
+pub mod Sent

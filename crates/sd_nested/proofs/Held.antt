@@ -18,7 +18,7 @@ use Rattle.sd_nested.specs.Searches.{holder_search}
 use Rattle.sd_nested.specs.Named.{is_group, group_ref, group_refs}
 use Rattle.sd_nested.specs.Paths.{at_or_under, holds, holders_in, holding}
 use Rattle.sd_nested.specs.Rounds.{rounds, beginning, holder_way}
-use Rattle.sd_nested.proofs.Same.{dn_texts_same, right_of, self_dn}
+use Rattle.sd_dn.proofs.Same.{dn_texts_same, right_of, self_dn}
 use Rattle.sd_nested.proofs.Spelled.{spells_alike, met_dn}
 use Rattle.sd_nested.proofs.In.{In, in_flat, in_from, in_filter, filter_in}
 use Rattle.sd_nested.proofs.Marks.{admitted, met_by, IsSpelledAmong}

@@ -1,5 +1,4 @@
 pub mod Exchanges
-pub mod Same
 pub mod Sent
 pub mod Turns
 pub mod In

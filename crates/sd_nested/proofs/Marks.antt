@@ -8,7 +8,7 @@ use Rattle.sd_dn.specs.Comparing.{same_dn}
 use Rattle.sd_dn.specs.Texts.{both_meet, spelled}
 use Rattle.sd_nested.specs.Rounds.{is_new, listed_dn, dns_of, new_among}
 use Rattle.sd_nested.proofs.In.{In, or_either}
-use Rattle.sd_nested.proofs.Same.{self_dn}
+use Rattle.sd_dn.proofs.Same.{self_dn}
 
 -- a text spells a DN that is admitted
 abbrev pub admitted : (List (List Pair) → Bool) → Option (List (List Pair)) → Bool

@@ -16,7 +16,7 @@ use Rattle.sd_nested.specs.Searches.{read_search}
 use Rattle.sd_nested.specs.Named.{is_group, own_members, member_values, group_values, user_name, user_names, listed}
 use Rattle.sd_nested.specs.Paths.{is_placed, placed_in, holds, members_in, reached}
 use Rattle.sd_nested.specs.Rounds.{rounds, member_way, member_start, first_values}
-use Rattle.sd_nested.proofs.Same.{dn_texts_same, right_of, ends_alike}
+use Rattle.sd_dn.proofs.Same.{dn_texts_same, right_of, ends_alike}
 use Rattle.sd_nested.proofs.In.{In, in_flat, in_from, in_filter, filter_in, in_any, any_in, any_more, or_either}
 use Rattle.sd_nested.proofs.Marks.{admitted, all_met, taken, spelled_among}
 use Rattle.sd_nested.proofs.PathEnds.{ends, found_for, admitted_of, IsAlike, IsSound, IsMarked, AreAsked, all_sound, all_found}

@@ -1,10 +1,9 @@
 -- What entries are called, and what groups say of their members (RFC 2307bis).
 use Rattle.std.specs.Prelude.{ℕ, Bool, ◌||◌, if◌then◌else◌, List, [], ◌∷◌, Option, Some, None, codes}
 use Rattle.std.specs.List.{flat_map}
-use Rattle.sd_dn.specs.Comparing.{same_text}
 use Rattle.sd_ldap.specs.declared.entry.Attribute.{Attribute}
 use Rattle.sd_ldap.specs.declared.entry.DirEntry.{DirEntry}
-use Rattle.sd_entry.specs.Values.{first_of, has_class, number_of}
+use Rattle.sd_entry.specs.Values.{first_of, own_values, values_of, has_class, number_of}
 use Rattle.sd_entry.specs.Users.{is_filled, is_user}
 use Rattle.sd_rules.specs.declared.records.GroupRef.{GroupRef}
 
@@ -13,11 +12,11 @@ abbrev pub is_group : List Attribute → Bool
 is_group attributes = has_class (codes "posixGroup") attributes || has_class (codes "groupOfNames") attributes
 
 abbrev pub own_members : Attribute → List (List ℕ)
-own_members a = if same_text a.name (codes "member") then a.values else []
+own_members a = own_values (codes "member") a
 
 -- the values of `member`
 abbrev pub member_values : List Attribute → List (List ℕ)
-member_values attributes = flat_map own_members attributes
+member_values attributes = values_of (codes "member") attributes
 
 -- the member values of a group
 abbrev pub group_values : DirEntry → List (List ℕ)

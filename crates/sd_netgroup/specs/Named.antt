@@ -1,9 +1,9 @@
 -- Which entries are netgroups of a name, and what they say (RFC 2307).
-use Rattle.std.specs.Prelude.{ℕ, Bool, ◌&&◌, if◌then◌else◌, List, [], ◌∷◌, filter, Option, Some, None, codes}
+use Rattle.std.specs.Prelude.{ℕ, Bool, ◌&&◌, List, [], ◌∷◌, filter, Option, Some, None, codes}
 use Rattle.std.specs.List.{flat_map}
-use Rattle.sd_dn.specs.Comparing.{same_text}
 use Rattle.sd_ldap.specs.declared.entry.Attribute.{Attribute}
 use Rattle.sd_ldap.specs.declared.entry.DirEntry.{DirEntry}
+pub use Rattle.sd_entry.specs.Values.{own_values, values_of}
 use Rattle.sd_entry.specs.Values.{has_class}
 use Rattle.sd_match.specs.Matching.{has_value}
 use Rattle.sd_match.specs.Answering.{same_bytes, is_at_or_under}
@@ -21,13 +21,6 @@ is_named base name e = is_at_or_under base e && is_called name e.attributes
 -- the netgroups of a name
 abbrev pub named_in : List DirEntry → List ℕ → List ℕ → List DirEntry
 named_in entries base name = filter (λ (e : DirEntry). is_named base name e) entries
-
-abbrev pub own_values : List ℕ → Attribute → List (List ℕ)
-own_values name a = if same_text a.name name then a.values else []
-
--- the values of an attribute
-abbrev pub values_of : List ℕ → List Attribute → List (List ℕ)
-values_of name attributes = flat_map (own_values name) attributes
 
 -- the names of the netgroups that are members
 abbrev pub members_of : DirEntry → List (List ℕ)

@@ -1,9 +1,8 @@
 -- Sudo rules, as entries have them (sudoers.ldap(5)). Names of attributes and classes are compared without ASCII case.
 use Rattle.std.specs.Prelude.{ℕ, ℤ, pos, ◌-ℤ◌, ◌==◌, nat_le, if◌then◌else◌, List, [], ◌∷◌, length, codes, Option, Some, None}
-use Rattle.std.specs.List.{flat_map}
-use Rattle.sd_dn.specs.Comparing.{same_text}
 use Rattle.sd_ldap.specs.declared.entry.Attribute.{Attribute}
 use Rattle.sd_ldap.specs.declared.entry.DirEntry.{DirEntry}
+pub use Rattle.sd_entry.specs.Values.{own_values, values_of}
 use Rattle.sd_entry.specs.Values.{first_of, has_class, number_of}
 use Rattle.sd_roles.specs.declared.roles.Role.{Role}
 
@@ -31,13 +30,6 @@ order_in (b ∷ bs) = if b == 45 then below (small_number bs) else above (small_
 abbrev pub order_of : Option (List ℕ) → ℤ
 order_of None = pos 0
 order_of (Some text) = order_in text
-
-abbrev pub own_values : List ℕ → Attribute → List (List ℕ)
-own_values name a = if same_text a.name name then a.values else []
-
--- all values of a name, in the entry's order
-abbrev pub values_of : List ℕ → List Attribute → List (List ℕ)
-values_of name attributes = flat_map (own_values name) attributes
 
 abbrev pub handed_as : List ℕ → List Attribute → Attribute
 handed_as name attributes = record { name = name; values = values_of name attributes }

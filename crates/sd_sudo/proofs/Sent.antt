@@ -1,62 +1,18 @@
 -- What a directory sends of its sudo rules has the rules of the directory.
 use Rattle.std.specs.Prelude.{filter, codes, not}
-use Rattle.std.proofs.Common.{◌≡◌, ℕ, Bool, true, false, cond, ◌&&◌, ◌||◌, List, [], ◌∷◌, ◌++◌, map, Option, Some, None, refl, sym, ap, ◌∙◌}
-use Rattle.std.specs.List.{list_any, flat_map}
-use Rattle.sd_dn.specs.Comparing.{same_text}
+use Rattle.std.proofs.Common.{◌≡◌, ℕ, Bool, true, false, cond, ◌&&◌, List, [], ◌∷◌, ◌++◌, map, Option, Some, None, refl, sym, ap, ◌∙◌}
 use Rattle.sd_dn.specs.Texts.{spelled}
 use Rattle.sd_ldap.specs.declared.entry.Attribute.{Attribute}
 use Rattle.sd_ldap.specs.declared.entry.DirEntry.{DirEntry}
 use Rattle.sd_entry.specs.Values.{first_of, has_class}
 use Rattle.sd_match.specs.Matching.{matches}
-use Rattle.sd_match.specs.Answering.{is_password, is_sent, sent_attributes, sent, is_at_or_under, is_found, found}
-use Rattle.sd_nested.proofs.Same.{texts_same}
-use Rattle.sd_fetch.proofs.Sent.{IsKept, sent_are, says_sent, first_sent}
+use Rattle.sd_match.specs.Answering.{sent_attributes, sent, is_at_or_under, is_found, found}
+use Rattle.sd_match.proofs.Sent.{IsKept, says_sent, values_sent, first_sent}
 use Rattle.sd_fetch.proofs.Found.{whole_scope}
 use Rattle.sd_roles.specs.declared.roles.Role.{Role}
-use Rattle.sd_roles.specs.Roles.{own_values, values_of, handed_of, role_named, role_by, role_of}
+use Rattle.sd_roles.specs.Roles.{handed_of, role_named, role_by, role_of}
 use Rattle.sd_sudo.specs.Searches.{asked_attributes, role_search}
 use Rattle.sd_sudo.specs.Listing.{listed, roles_of, roles_in}
-
--- ---- all values of an attribute that is asked for
-
-any_as : (texts : List (List ℕ)) (a b : List ℕ) → same_text a b ≡ true → list_any (λ text. same_text text a) texts ≡ list_any (λ text. same_text text b) texts
-any_as [] a b h = refl
-any_as (t ∷ ts) a b h =
-    let e : same_text t a ≡ same_text t b = texts_same.flip t a ∙ (texts_same.left a b t h ∙ texts_same.flip b t) in
-    ap (λ (x : Bool). x || list_any (λ text. same_text text a) ts) e ∙ ap (λ (x : Bool). same_text t b || x) (any_as ts a b h)
-
-sent_so : (password all among : Bool) → password ≡ false → among ≡ true → (not password && (all || among)) ≡ true
-sent_so false true among p q = refl
-sent_so false false among p q = q
-sent_so true all among p q = absurd cc
-
-named_sent : (asked : List (List ℕ)) (name : List ℕ) → IsKept asked name → (a : Attribute) → same_text a.name name ≡ true → is_sent asked a ≡ true
-named_sent asked name k a h =
-    sent_so (is_password a) _ (list_any (λ text. same_text text a.name) asked)
-    (texts_same.left a.name name (codes "userPassword") h ∙ k.open_name)
-    (any_as asked a.name name h ∙ k.among)
-
-unsent_other : (same kept : Bool) → (same ≡ true → kept ≡ true) → kept ≡ false → same ≡ false
-unsent_other true kept f h = let e = f refl in cc
-unsent_other false kept f h = refl
-
-unnamed : (asked : List (List ℕ)) (name : List ℕ) → IsKept asked name → (a : Attribute) → is_sent asked a ≡ false → same_text a.name name ≡ false
-unnamed asked name k a h = unsent_other (same_text a.name name) (is_sent asked a) (named_sent asked name k a) h
-
-flat_step : {X Y : Type 0} (q : X → List Y) (x : X) (xs kept : List X) (b : Bool) → (b ≡ false → q x ≡ []) → flat_map q kept ≡ flat_map q xs → flat_map q (cond b (x ∷ kept) kept) ≡ q x ++ flat_map q xs
-flat_step {X} {Y} q x xs kept true f e = ap (λ (y : List Y). q x ++ y) e
-flat_step {X} {Y} q x xs kept false f e = rw (f refl) e
-
-flat_kept : {X Y : Type 0} (q : X → List Y) (p : X → Bool) → ((x : X) → p x ≡ false → q x ≡ []) → (xs : List X) → flat_map q (filter p xs) ≡ flat_map q xs
-flat_kept q p f [] = refl
-flat_kept q p f (x ∷ xs) = flat_step q x xs (filter p xs) (p x) (f x) (flat_kept q p f xs)
-
-none_own : (name : List ℕ) (a : Attribute) → same_text a.name name ≡ false → own_values name a ≡ []
-none_own name a e = rw e refl
-
-values_sent : (asked : List (List ℕ)) (name : List ℕ) → IsKept asked name → (xs : List Attribute) → values_of name (sent_attributes false asked xs) ≡ values_of name xs
-values_sent asked name k xs =
-    ap (values_of name) (sent_are asked xs) ∙ flat_kept (own_values name) (λ (a : Attribute). is_sent asked a) (λ a h. none_own name a (unnamed asked name k a h)) xs
 
 -- ---- the attributes of a rule
 

@@ -72,7 +72,7 @@ dn_texts_same = record { flip = λ x y. flip_read (spelled x) (spelled y); left 
 pub right_of : (x y z : List ℕ) → same_dn_text x y ≡ true → same_dn_text z x ≡ same_dn_text z y
 right_of x y z h = dn_texts_same.flip z x ∙ (dn_texts_same.left x y z h ∙ dn_texts_same.flip y z)
 
--- ---- a DN and itself
+-- ---- a text or a DN, and itself
 
 self_list : {X : Type 0} (same : X → X → Bool) → ((x : X) → same x x ≡ true) → (xs : List X) → same_list same xs xs ≡ true
 self_list same h [] = refl
@@ -81,8 +81,11 @@ self_list same h (x ∷ xs) = and_from (same x x) (same_list same xs xs) (h x) (
 self_byte : (b : ℕ) → eq_ignore_ascii_case b b ≡ true
 self_byte b = eq-eqb (to_ascii_lowercase b) (to_ascii_lowercase b) refl
 
+pub self_text : (text : List ℕ) → same_text text text ≡ true
+self_text text = self_list eq_ignore_ascii_case self_byte text
+
 self_pair : (p : Pair) → same_pair p p ≡ true
-self_pair p = and_from (same_text p.name p.name) (same_text p.value p.value) (self_list eq_ignore_ascii_case self_byte p.name) (self_list eq_ignore_ascii_case self_byte p.value)
+self_pair p = and_from (same_text p.name p.name) (same_text p.value p.value) (self_text p.name) (self_text p.value)
 
 pub self_dn : (dn : List (List Pair)) → same_dn dn dn ≡ true
 self_dn dn = self_list same_rdn (λ rdn. self_list same_pair self_pair rdn) dn
