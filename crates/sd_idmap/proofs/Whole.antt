@@ -1,10 +1,9 @@
 -- A text that spells a SID is read as that, and a text that is read spells what is read.
-use Rattle.std.specs.Prelude.{nat_lt, nat_le, ◌&&◌, slice_index, IfOk}
+use Rattle.std.specs.Prelude.{nat_lt, nat_le, ◌&&◌, IfOk}
 use Rattle.std.proofs.Common.{◌≡◌, ◌<◌, ◌≤◌, ℕ, zero, suc, ◌+◌, ◌-◌, ◌^◌, Bool, true, false, cond, List, [], ◌∷◌, ◌++◌, length, take, drop, Option, Some, None, Result, Ok, Err, refl, sym, ap, subst, ◌∙◌, append_assoc, arith, inl, inr}
 use Rattle.std.specs.List.{flat_map}
-use Rattle.std.specs.Option.{option_and_then}
 use Rattle.std.proofs.lemmas.Bool.{and_parts, and_from, leb-true, le-ltb, le-leb}
-use Rattle.std.proofs.lemmas.List.{append-nil, length_push, take_more, take_all, take-append-drop}
+use Rattle.std.proofs.lemmas.List.{append-nil, length_push, take-append-drop}
 use Rattle.std.proofs.lemmas.Fmt.{decimal_digit}
 use Rattle.sd_idmap.specs.declared.sids.Sid.{Sid}
 use Rattle.sd_idmap.specs.declared.reading.SidFault.{SidFault}
@@ -13,9 +12,10 @@ use Rattle.sd_idmap.specs.declared.reading.Stage.{Stage}
 use Rattle.sd_idmap.specs.declared.reading.Stage.TheVariants.{Lead, Begin, Number}
 use Rattle.sd_idmap.specs.Sids.{part, text_of, are_numbers, is_sid}
 use Rattle.sd_idmap.specs.Grammar.{Spells, IsFirstBad, Reads}
-use Rattle.sd_idmap.specs.Reading.{Progress, at, start, greatest, run, ended, sid_by, sid_in, StopsAt, IsBadAt}
+use Rattle.sd_idmap.specs.Reading.{Progress, at, start, greatest, step, run, ended, sid_by, sid_in, IsBadAt}
 use Rattle.sd_idmap.proofs.Texts.{text_push}
-use Rattle.sd_idmap.proofs.RunLaws.{run_on}
+use Rattle.sd_pieces.specs.Steps as specs
+use Rattle.sd_pieces.proofs.StepLaws as steps
 use Rattle.sd_idmap.proofs.Spelled.{greatest_part, are_push, are_front, IsGood, gone_over, start_moves}
 use Rattle.sd_idmap.proofs.Complete.{number_read, parts_read}
 
@@ -85,7 +85,7 @@ in_spelled text sid h = by (run start text) refl h
 
 -- a front of some SID's text
 abbrev pub GoesOn : List ℕ → Type 0
-GoesOn text = (more : List ℕ) × (sid : Sid) × Spells (text ++ more) sid
+GoesOn text = specs.GoesOn Spells text
 
 zeros_text : text_of (0 ∷ 0 ∷ []) ≡ 83 ∷ 45 ∷ 49 ∷ 45 ∷ 48 ∷ 45 ∷ 48 ∷ []
 zeros_text = rw (decimal_digit 0 (omega arith)) refl
@@ -138,43 +138,17 @@ reached_goes text p h =
 
 -- ---- where reading stops
 
-stops_all : (text : List ℕ) (place : ℕ) → StopsAt text place → (more : List ℕ) → run start (take (place + 1) text ++ more) ≡ None
-stops_all text place s more =
-    let byte : ℕ = slice_index text place in
-    ap (λ (w : List ℕ). run start (w ++ more)) (take_more text place 0 s.within)
-    ∙ (ap (run start) (append_assoc (take place text) (byte ∷ []) more)
-    ∙ (run_on start (take place text) (byte ∷ more)
-    ∙ (ap (λ (o : Option Progress). option_and_then (λ q. run q (byte ∷ more)) o) s.front
-    ∙ ap (λ (o : Option Progress). option_and_then (λ q. run q more) o) s.refused)))
-
 pub bad_none : (text : List ℕ) (place : ℕ) → IsBadAt text place → sid_in text ≡ None
 bad_none text place (inl s) =
-    ap sid_in (sym (take-append-drop (place + 1) text)) ∙ ap sid_by (stops_all text place s (drop (place + 1) text))
+    ap sid_in (sym (take-append-drop (place + 1) text)) ∙ ap sid_by (steps.stops_all step start text place s (drop (place + 1) text))
 bad_none text place (inr e) = ap sid_by e.whole ∙ e.none
 
 not_both : (o : Option Sid) (sid : Sid) → o ≡ Some sid → o ≡ None → ⊥
 not_both o sid p q = absurd cc
 
-no_progress : (o : Option Progress) (p : Progress) → o ≡ Some p → o ≡ None → ⊥
-no_progress o p h k = absurd cc
-
 pub first_bad : (text : List ℕ) (place : ℕ) → IsBadAt text place → IsFirstBad text place
-first_bad text place (inl s) =
-    let within : place < length text = s.within in
-    record {
-      within = omega arith;
-      front = reached_goes (take place text) s.reached s.front;
-      stop = λ _ more sid spelled. no_progress (run start (take (place + 1) text ++ more)) (at sid.domain (Number sid.rid)) (spelled_run (take (place + 1) text ++ more) sid spelled) (stops_all text place s more);
-      short = λ at_end sid spelled. omega arith;
-    }
-first_bad text place (inr e) =
-    let end : place ≡ length text = e.at_end in
-    record {
-      within = omega arith;
-      front = subst GoesOn (sym (take_all place text (omega arith))) (reached_goes text e.reached e.whole);
-      stop = λ less more sid spelled. omega arith;
-      short = λ at_end sid spelled. not_both (sid_in text) sid (spelled_in text sid spelled) (bad_none text place (inr e));
-    }
+first_bad text place bad =
+    steps.first_bad step (λ p. ended p.whole p.stage) Spells start reached_goes (λ t sid s. (at sid.domain (Number sid.rid), spelled_run t sid s, domain_ends sid.domain sid.rid s.fits)) text place bad
 
 one_sid : (o : Option Sid) (a b : Sid) → o ≡ Some a → o ≡ Some b → a ≡ b
 one_sid o a b p q = let e : Some a ≡ Some b = sym p ∙ q in cc

@@ -1,6 +1,7 @@
 -- Reading a SID's text from left to right, one byte after the other.
-use Rattle.std.specs.Prelude.{◌≡◌, ℕ, ◌+◌, ◌-◌, ◌*◌, ◌^◌, ◌<◌, Bool, ◌&&◌, ◌==◌, nat_lt, nat_le, if◌then◌else◌, List, [], ◌∷◌, ◌++◌, length, take, Option, Some, None, ◌⊎◌, slice_index}
-use Rattle.std.specs.Option.{option_and_then}
+use Rattle.std.specs.Prelude.{ℕ, ◌+◌, ◌-◌, ◌*◌, ◌^◌, Bool, ◌&&◌, ◌==◌, nat_lt, nat_le, if◌then◌else◌, List, [], ◌∷◌, ◌++◌, length, Option, Some, None}
+use Rattle.sd_pieces.specs.Steps.{run_by}
+use Rattle.sd_pieces.specs.Steps as steps
 use Rattle.sd_idmap.specs.declared.sids.Sid.{Sid}
 use Rattle.sd_idmap.specs.declared.reading.Stage.{Stage}
 use Rattle.sd_idmap.specs.declared.reading.Stage.TheVariants as stages
@@ -67,8 +68,7 @@ abbrev pub step : Progress → ℕ → Option Progress
 step p b = gone_by p.whole (next_at (length p.whole) p.stage b)
 
 abbrev pub run : Progress → List ℕ → Option Progress
-run p [] = Some p
-run p (b ∷ bs) = option_and_then (λ q. run q bs) (step p b)
+run = run_by step
 
 -- the SID where the text may end: behind a number that is a part
 abbrev pub ended : List ℕ → Stage → Option Sid
@@ -85,19 +85,6 @@ sid_by (Some p) = ended p.whole p.stage
 abbrev pub sid_in : List ℕ → Option Sid
 sid_in text = sid_by (run start text)
 
--- reading goes as far as the place, and not over the byte there
-pub record StopsAt (text : List ℕ) (place : ℕ) : Type 0 where
-  pub within : place < length text
-  pub reached : Progress
-  pub front : run start (take place text) ≡ Some reached
-  pub refused : step reached (slice_index text place) ≡ None
-
--- reading goes to the end, where no SID ends
-pub record EndsShort (text : List ℕ) (place : ℕ) : Type 0 where
-  pub at_end : place ≡ length text
-  pub reached : Progress
-  pub whole : run start text ≡ Some reached
-  pub none : ended reached.whole reached.stage ≡ None
-
+-- reading fails there: at a byte that has no place, or at the end, where no SID ends
 abbrev pub IsBadAt : List ℕ → ℕ → Type 0
-IsBadAt text place = StopsAt text place ⊎ EndsShort text place
+IsBadAt text place = steps.IsBadAt step start (λ p. ended p.whole p.stage) text place

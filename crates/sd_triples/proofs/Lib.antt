@@ -1,4 +1,3 @@
-pub mod RunLaws
 pub mod Walk
 pub mod Spelled
 pub mod Trims

@@ -1,9 +1,9 @@
 -- What reading has gone over, and that it reads the triple of each text that spells one.
-use Rattle.std.specs.Prelude.{◌==◌, ◌&&◌, not, slice_index, IfOk}
-use Rattle.std.proofs.Common.{◌≡◌, ◌<◌, ℕ, ◌+◌, Bool, true, false, cond, List, [], ◌∷◌, ◌++◌, length, take, drop, Option, Some, None, Result, Ok, Err, refl, sym, ap, subst, ◌∙◌, append_assoc, arith, inl, inr, ◌⊎◌}
+use Rattle.std.specs.Prelude.{◌==◌, ◌&&◌, not, IfOk}
+use Rattle.std.proofs.Common.{◌≡◌, ℕ, ◌+◌, Bool, true, false, cond, List, [], ◌∷◌, ◌++◌, drop, Option, Some, None, Result, Ok, Err, refl, sym, ap, subst, ◌∙◌, append_assoc, inl, inr, ◌⊎◌}
 use Rattle.std.specs.Option.{option_and_then}
 use Rattle.std.proofs.lemmas.Bool.{and_parts, and_from, eqb-true, ne_eqb, true≢false, not-true, not_from_false}
-use Rattle.std.proofs.lemmas.List.{append-nil, take_more, take_all, take-append-drop}
+use Rattle.std.proofs.lemmas.List.{append-nil, take-append-drop}
 use Rattle.std.proofs.lemmas.List.Folds.{list_all-append}
 use Rattle.sd_triples.specs.declared.triples.Triple.{Triple}
 use Rattle.sd_triples.specs.declared.reading.TripleFault.{TripleFault}
@@ -11,8 +11,9 @@ use Rattle.sd_triples.specs.declared.reading.TripleFault.TheVariants as faults
 use Rattle.sd_triples.specs.declared.reading.Stage.{Stage}
 use Rattle.sd_triples.specs.declared.reading.Stage.TheVariants.{Start, Host, User, Domain, End}
 use Rattle.sd_triples.specs.Grammar.{is_reserved, is_field, written, triple_of, Spells, IsFirstBad, Reads}
-use Rattle.sd_triples.specs.Reading.{Progress, at, start, in_field, step_by, step, run, ended_at, ended, triple_by, triple_in, StopsAt, IsBadAt}
-use Rattle.sd_triples.proofs.RunLaws.{run_on}
+use Rattle.sd_triples.specs.Reading.{Progress, at, start, in_field, step_by, step, run, ended_at, ended, triple_by, triple_in, IsBadAt}
+use Rattle.sd_pieces.specs.Steps as specs
+use Rattle.sd_pieces.proofs.StepLaws as steps
 
 -- ---- what was read so far
 
@@ -186,7 +187,7 @@ in_spelled text triple h = by (run start text) refl h
 -- ---- what was reached goes on to a triple
 
 abbrev GoesOn : List ℕ → Type 0
-GoesOn text = (more : List ℕ) × (triple : Triple) × Spells (text ++ more) triple
+GoesOn text = specs.GoesOn Spells text
 
 goes_to : (text more host user domain : List ℕ) → is_field host ≡ true → is_field user ≡ true → is_field domain ≡ true → text ++ more ≡ written host user domain → GoesOn text
 goes_to text more host user domain host_ok user_ok domain_ok is =
@@ -208,43 +209,17 @@ reached_goes text p h =
 
 -- ---- where reading stops
 
-stops_all : (text : List ℕ) (place : ℕ) → StopsAt text place → (more : List ℕ) → run start (take (place + 1) text ++ more) ≡ None
-stops_all text place s more =
-    let byte : ℕ = slice_index text place in
-    ap (λ (w : List ℕ). run start (w ++ more)) (take_more text place 0 s.within)
-    ∙ (ap (run start) (append_assoc (take place text) (byte ∷ []) more)
-    ∙ (run_on start (take place text) (byte ∷ more)
-    ∙ (ap (λ (o : Option Progress). option_and_then (λ q. run q (byte ∷ more)) o) s.front
-    ∙ ap (λ (o : Option Progress). option_and_then (λ q. run q more) o) s.refused)))
-
 pub bad_none : (text : List ℕ) (place : ℕ) → IsBadAt text place → triple_in text ≡ None
 bad_none text place (inl s) =
-    ap triple_in (sym (take-append-drop (place + 1) text)) ∙ ap triple_by (stops_all text place s (drop (place + 1) text))
+    ap triple_in (sym (take-append-drop (place + 1) text)) ∙ ap triple_by (steps.stops_all step start text place s (drop (place + 1) text))
 bad_none text place (inr e) = ap triple_by e.whole ∙ e.none
 
 not_both : (o : Option Triple) (triple : Triple) → o ≡ Some triple → o ≡ None → ⊥
 not_both o triple p q = absurd cc
 
-no_progress : (o : Option Progress) (p : Progress) → o ≡ Some p → o ≡ None → ⊥
-no_progress o p h k = absurd cc
-
 pub first_bad : (text : List ℕ) (place : ℕ) → IsBadAt text place → IsFirstBad text place
-first_bad text place (inl s) =
-    let within : place < length text = s.within in
-    record {
-      within = omega arith;
-      front = reached_goes (take place text) s.reached s.front;
-      stop = λ _ more triple spelled. no_progress (run start (take (place + 1) text ++ more)) (at spelled.host spelled.user spelled.domain End) (spelled_run (take (place + 1) text ++ more) triple spelled) (stops_all text place s more);
-      short = λ at_end triple spelled. omega arith;
-    }
-first_bad text place (inr e) =
-    let end : place ≡ length text = e.at_end in
-    record {
-      within = omega arith;
-      front = subst GoesOn (sym (take_all place text (omega arith))) (reached_goes text e.reached e.whole);
-      stop = λ less more triple spelled. omega arith;
-      short = λ at_end triple spelled. not_both (triple_in text) triple (spelled_in text triple spelled) (bad_none text place (inr e));
-    }
+first_bad text place bad =
+    steps.first_bad step ended Spells start reached_goes (λ t triple s. (at s.host s.user s.domain End, spelled_run t triple s, ap Some (sym s.meaning))) text place bad
 
 one_triple : (o : Option Triple) (a b : Triple) → o ≡ Some a → o ≡ Some b → a ≡ b
 one_triple o a b p q = let e : Some a ≡ Some b = sym p ∙ q in cc

@@ -1,6 +1,7 @@
 -- Which texts spell which triple of a netgroup.
-use Rattle.std.specs.Prelude.{◌≡◌, ℕ, ◌+◌, ◌<◌, ◌≤◌, Bool, true, ◌||◌, ◌==◌, not, if◌then◌else◌, List, [], ◌∷◌, ◌++◌, length, take, Result, Ok, Err}
+use Rattle.std.specs.Prelude.{◌≡◌, ℕ, Bool, true, ◌||◌, ◌==◌, not, if◌then◌else◌, List, [], ◌∷◌, ◌++◌, Result, Ok, Err}
 use Rattle.std.specs.List.{list_all}
+use Rattle.sd_pieces.specs.Steps as steps
 use Rattle.sd_triples.specs.declared.triples.Triple.{Triple}
 use Rattle.sd_triples.specs.declared.reading.TripleFault.{TripleFault}
 use Rattle.sd_triples.specs.declared.reading.TripleFault.TheVariants as faults
@@ -51,11 +52,8 @@ pub record Spells (text : List ℕ) (triple : Triple) : Type 0 where
 
 -- The place of the first byte with which no triple goes on, or the length of a text that ends too soon: the
 -- bytes before it go on to a triple in some way, and with the byte there they don't in any.
-pub record IsFirstBad (text : List ℕ) (place : ℕ) : Type 0 where
-  pub within : place ≤ length text
-  pub front : (more : List ℕ) × (triple : Triple) × Spells (take place text ++ more) triple
-  pub stop : place < length text → (more : List ℕ) → (triple : Triple) → Spells (take (place + 1) text ++ more) triple → ⊥
-  pub short : place ≡ length text → (triple : Triple) → Spells text triple → ⊥
+abbrev pub IsFirstBad : List ℕ → ℕ → Type 0
+IsFirstBad text place = steps.IsFirstBad Spells text place
 
 -- What was answered for a text that spells the triple: it, unless memory ran out.
 abbrev pub Reads : Result Triple TripleFault → Triple → Type 0

@@ -1,6 +1,7 @@
 -- Reading a triple's text from left to right, one byte after the other.
-use Rattle.std.specs.Prelude.{◌≡◌, ℕ, ◌<◌, ◌==◌, if◌then◌else◌, List, [], ◌∷◌, ◌++◌, length, take, slice_index, Option, Some, None, ◌⊎◌}
-use Rattle.std.specs.Option.{option_and_then}
+use Rattle.std.specs.Prelude.{ℕ, ◌==◌, if◌then◌else◌, List, [], ◌∷◌, ◌++◌, Option, Some, None}
+use Rattle.sd_pieces.specs.Steps.{run_by}
+use Rattle.sd_pieces.specs.Steps as steps
 use Rattle.sd_triples.specs.declared.triples.Triple.{Triple}
 use Rattle.sd_triples.specs.declared.reading.Stage.{Stage}
 use Rattle.sd_triples.specs.declared.reading.Stage.TheVariants as stages
@@ -39,8 +40,7 @@ abbrev pub step : Progress → ℕ → Option Progress
 step p b = step_by p.stage p b
 
 abbrev pub run : Progress → List ℕ → Option Progress
-run p [] = Some p
-run p (b ∷ bs) = option_and_then (λ q. run q bs) (step p b)
+run = run_by step
 
 -- the triple where the text may end
 abbrev pub ended_at : Stage → Progress → Option Triple
@@ -58,19 +58,6 @@ triple_by (Some p) = ended p
 abbrev pub triple_in : List ℕ → Option Triple
 triple_in text = triple_by (run start text)
 
--- reading goes as far as the place, and not over the byte there
-pub record StopsAt (text : List ℕ) (place : ℕ) : Type 0 where
-  pub within : place < length text
-  pub reached : Progress
-  pub front : run start (take place text) ≡ Some reached
-  pub refused : step reached (slice_index text place) ≡ None
-
--- reading goes to the end, where no triple ends
-pub record EndsShort (text : List ℕ) (place : ℕ) : Type 0 where
-  pub at_end : place ≡ length text
-  pub reached : Progress
-  pub whole : run start text ≡ Some reached
-  pub none : ended reached ≡ None
-
+-- reading fails there: at a byte that has no place, or at the end, where no triple ends
 abbrev pub IsBadAt : List ℕ → ℕ → Type 0
-IsBadAt text place = StopsAt text place ⊎ EndsShort text place
+IsBadAt text place = steps.IsBadAt step start ended text place
