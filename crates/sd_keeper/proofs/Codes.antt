@@ -1,35 +1,18 @@
 -- A reading function and a spelling that belong together: what is read is spelled so, and what is spelled is read again.
-use Rattle.std.proofs.Common.{◌≡◌, ℕ, zero, suc, ◌+◌, ◌^◌, ◌<◌, ◌≤◌, Bool, true, false, cond, ltb, eqb, List, [], ◌∷◌, ◌++◌, length, get_or, take, drop, Option, Some, None, refl, sym, ap, subst, ◌∙◌, append_assoc, arith, inl, inr}
-use Rattle.std.specs.Prelude.{IfSome}
+use Rattle.std.proofs.Common.{◌≡◌, ℕ, zero, suc, ◌^◌, ◌<◌, ◌≤◌, Bool, true, false, cond, ltb, eqb, List, [], ◌∷◌, ◌++◌, length, take, drop, Option, Some, None, refl, sym, ap, subst, ◌∙◌, append_assoc, arith}
 use Rattle.std.specs.List.{flat_map, AllByRecursion}
 use Rattle.std.specs.Int.{Width, w32, w64, byte_len, from_be_bytes, to_be_bytes}
-use Rattle.std.proofs.lemmas.Bool.{cases_lt, ltb-false, le-ltb, eqb-true}
-use Rattle.std.proofs.lemmas.List.{take_at, drop_at, take-append-drop, length-append, length-take, get_or-drop, get_or-take, get_or_past}
+use Rattle.std.proofs.lemmas.Bool.{ltb-false, le-ltb, eqb-true}
+use Rattle.std.proofs.lemmas.List.{take_at, drop_at, take-append-drop, length-append, length-take}
 use Rattle.std.proofs.lemmas.List.Concat.{flat_map-cons}
+use Rattle.std.proofs.lemmas.Option.{none-some, same_Some}
 use Rattle.std.proofs.lemmas.Nat.{be_bytes_4, be_bytes_8, from_be_bytes-to_be_bytes_4, from_be_bytes-to_be_bytes_8}
+use Rattle.sd_base.proofs.Octets.{AreOctets, front_octets, back_octets, rest_octets}
 use Rattle.sd_keeper.specs.Spelling.{number, long, text, list, flag, optional}
 use Rattle.sd_keeper.specs.Fitting.{IsNumber, IsLong, IsText, IsList, IsOptional}
-use Rattle.sd_keeper.specs.Reading.{◌>>=◌, pair_at, made_at, digits_at, number_at, long_at, cut_at, text_at, items_at, list_at, flag_by, flag_at, optional_by, optional_at}
+use Rattle.sd_keeper.specs.Reading.{◌>>=◌, pair_at, made_at, digits_at, number_at, long_at, cut_at, text_at, items_at, list_at, flag_at, optional_at}
 
--- ---- octets
-
--- each is an octet
-pub record AreOctets (bytes : List ℕ) : Type 0 where
-  pub each : (i : ℕ) → get_or bytes i 0 < 256
-
-front_octets : (n : ℕ) (bytes : List ℕ) → AreOctets bytes → AreOctets (take n bytes)
-front_octets n bytes h = record {
-  each = λ i. elim (cases_lt i n) [
-    | inl below ↦ omega (arith, get_or-take n bytes i 0 below, h.each i)
-    | inr past ↦ omega (arith, get_or_past (take n bytes) i 0 (omega (arith, length-take n bytes)))
-  ];
-}
-
-back_octets : (n : ℕ) (bytes : List ℕ) → AreOctets bytes → AreOctets (drop n bytes)
-back_octets n bytes h = record { each = λ i. omega (arith, get_or-drop n bytes i 0, h.each (n + i)) }
-
-pub rest_octets : (b : ℕ) (bytes : List ℕ) → AreOctets (b ∷ bytes) → AreOctets bytes
-rest_octets b bytes h = record { each = λ i. h.each (suc i) }
+-- ---- fronts
 
 -- what was taken from the front of bytes, and what is behind it
 pub record Takes (bytes front rest : List ℕ) : Type 0 where
@@ -41,20 +24,14 @@ takes_then a x b y c p q = record { parts = p.parts ∙ ap (λ (t : List ℕ). x
 
 -- ---- options
 
-pub some_is : {T : Type 0} (x y : T) → Some x ≡ Some y → x ≡ y
-some_is x y e = cc
-
-pub none_is_some : {T : Type 0} (x : T) → None ≡ Some x → ⊥
-none_is_some x e = cc
-
 -- the value of a step that did not fail
 bound : {A B : Type 0} (o : Option A) (f : A → Option B) (y : B) → (o >>= f) ≡ Some y → (x : A) × (o ≡ Some x) × (f x ≡ Some y)
 bound (Some x) f y e = (x, refl, e)
-bound None f y e = absurd (none_is_some y e)
+bound None f y e = absurd (none-some y e)
 
 -- a test that did not fail
 let_by : {A : Type 0} (b : Bool) (o : Option A) (y : A) → cond b None o ≡ Some y → (b ≡ false) × (o ≡ Some y)
-let_by true o y e = absurd (none_is_some y e)
+let_by true o y e = absurd (none-some y e)
 let_by false o y e = (refl, e)
 
 -- ---- codes
@@ -72,7 +49,7 @@ pair_takes {A} {B} a b sa sb Fa Fb ca cb bytes y octets e =
     let first = ca.takes bytes p.0 octets p.1 in
     let second = cb.takes p.0.1 q.0 first.0.octets q.1 in
     let made : (A × B) × List ℕ = ((p.0.0, q.0.0), q.0.1) in
-    subst (λ (z : (A × B) × List ℕ). Takes bytes (sa z.0.0 ++ sb z.0.1) z.1 × (Fa z.0.0 × Fb z.0.1)) (some_is made y q.2)
+    subst (λ (z : (A × B) × List ℕ). Takes bytes (sa z.0.0 ++ sb z.0.1) z.1 × (Fa z.0.0 × Fb z.0.1)) (same_Some made y q.2)
     (takes_then bytes (sa p.0.0) p.0.1 (sb q.0.0) q.0.1 first.0 second.0, (first.1, second.1))
 
 pair_again : {A B : Type 0} (a : List ℕ → Option (A × List ℕ)) (b : List ℕ → Option (B × List ℕ)) (sa : A → List ℕ) (sb : B → List ℕ) (Fa : A → Type 0) (Fb : B → Type 0) → IsCode a sa Fa → IsCode b sb Fb
@@ -91,7 +68,7 @@ made_takes {A} {B} a sa Fa sb Fb make ca same fits bytes y octets e =
     let p = bound (a bytes) (λ x. Some (make x.0, x.1)) y e in
     let taken = ca.takes bytes p.0 octets p.1 in
     let made : B × List ℕ = (make p.0.0, p.0.1) in
-    subst (λ (z : B × List ℕ). Takes bytes (sb z.0) z.1 × Fb z.0) (some_is made y p.2)
+    subst (λ (z : B × List ℕ). Takes bytes (sb z.0) z.1 × Fb z.0) (same_Some made y p.2)
     (subst (λ (s : List ℕ). Takes bytes s p.0.1) (same p.0.0) taken.0, fits p.0.0 taken.1)
 
 made_again : {A B : Type 0} (a : List ℕ → Option (A × List ℕ)) (sa : A → List ℕ) (Fa : A → Type 0) (sb : B → List ℕ) (Fb : B → Type 0) (make : A → B) (parts : B → A) → IsCode a sa Fa
@@ -139,7 +116,7 @@ digits_take w limit wide bytes y octets e =
     let made : ℕ × List ℕ = (from_be_bytes w (take (byte_len w) bytes), drop (byte_len w) bytes) in
     let taken : Takes bytes (to_be_bytes w made.0) made.1 =
     record { parts = sym (ap (λ (f : List ℕ). f ++ drop (byte_len w) bytes) same ∙ take-append-drop (byte_len w) bytes); octets = back_octets (byte_len w) bytes octets } in
-    subst (λ (z : ℕ × List ℕ). Takes bytes (to_be_bytes w z.0) z.1 × (z.0 < limit)) (some_is made y g.1) (taken, wide.below (take (byte_len w) bytes) front)
+    subst (λ (z : ℕ × List ℕ). Takes bytes (to_be_bytes w z.0) z.1 × (z.0 < limit)) (same_Some made y g.1) (taken, wide.below (take (byte_len w) bytes) front)
 
 digits_again : (w : Width) (limit : ℕ) → IsWide w limit → (n : ℕ) (rest : List ℕ) → n < limit → digits_at w (to_be_bytes w n ++ rest) ≡ Some (n, rest)
 digits_again w limit wide n rest lt =
@@ -170,7 +147,7 @@ text_takes bytes y octets e =
     let both = takes_then bytes (number n.0) n.1 (take n.0 n.1) (drop n.0 n.1) size.0 second in
     let made : List ℕ × List ℕ = (take n.0 n.1, drop n.0 n.1) in
     let whole : Takes bytes (number (length made.0) ++ made.0) made.1 = subst (λ (k : ℕ). Takes bytes (number k ++ take n.0 n.1) (drop n.0 n.1)) (sym len) both in
-    subst (λ (z : List ℕ × List ℕ). Takes bytes (number (length z.0) ++ z.0) z.1 × (length z.0 < 2 ^ 32)) (some_is made y g.1) (whole, omega (arith, size.1))
+    subst (λ (z : List ℕ × List ℕ). Takes bytes (number (length z.0) ++ z.0) z.1 × (length z.0 < 2 ^ 32)) (same_Some made y g.1) (whole, omega (arith, size.1))
 
 text_again : (bytes rest : List ℕ) → IsText bytes → text_at (text bytes ++ rest) ≡ Some (bytes, rest)
 unfolding text_at text
@@ -188,7 +165,7 @@ module _ {T : Type 0} (item_at : List ℕ → Option (T × List ℕ)) (spelled :
   items_take : (n : ℕ) (bytes : List ℕ) (y : List T × List ℕ) → AreOctets bytes → items_at item_at n bytes ≡ Some y → Takes bytes (flat_map spelled y.0) y.1 × (length y.0 ≡ n) × AllByRecursion Fits y.0
   unfolding items_at
   items_take zero bytes y octets e =
-      subst (λ (z : List T × List ℕ). Takes bytes (flat_map spelled z.0) z.1 × (length z.0 ≡ 0) × AllByRecursion Fits z.0) (some_is ([], bytes) y e) (record { parts = refl; octets = octets }, refl, tt)
+      subst (λ (z : List T × List ℕ). Takes bytes (flat_map spelled z.0) z.1 × (length z.0 ≡ 0) × AllByRecursion Fits z.0) (same_Some ([], bytes) y e) (record { parts = refl; octets = octets }, refl, tt)
   items_take (suc n) bytes y octets e =
       let p = bound (item_at bytes) (λ first. items_at item_at n first.1 >>= λ others. Some (first.0 ∷ others.0, others.1)) y e in
       let q = bound (items_at item_at n p.0.1) (λ others. Some (p.0.0 ∷ others.0, others.1)) y p.2 in
@@ -196,7 +173,7 @@ module _ {T : Type 0} (item_at : List ℕ → Option (T × List ℕ)) (spelled :
       let others = items_take n p.0.1 q.0 first.0.octets q.1 in
       let both = takes_then bytes (spelled p.0.0) p.0.1 (flat_map spelled q.0.0) q.0.1 first.0 others.0 in
       let made : List T × List ℕ = (p.0.0 ∷ q.0.0, q.0.1) in
-      subst (λ (z : List T × List ℕ). Takes bytes (flat_map spelled z.0) z.1 × (length z.0 ≡ suc n) × AllByRecursion Fits z.0) (some_is made y q.2) (rw flat_map-cons both, ap suc others.1, (first.1, others.2))
+      subst (λ (z : List T × List ℕ). Takes bytes (flat_map spelled z.0) z.1 × (length z.0 ≡ suc n) × AllByRecursion Fits z.0) (same_Some made y q.2) (rw flat_map-cons both, ap suc others.1, (first.1, others.2))
 
   items_again : (xs : List T) (rest : List ℕ) → AllByRecursion Fits xs → items_at item_at (length xs) (flat_map spelled xs ++ rest) ≡ Some (xs, rest)
   unfolding items_at
@@ -234,7 +211,7 @@ choose false o p y e one other = other e
 pub bare_takes : {T : Type 0} (spelled : T → List ℕ) (Fits : T → Type 0) (x : T) (n kind : ℕ) (rest : List ℕ) (y : T × List ℕ) → AreOctets rest → eqb kind n ≡ true → Some (x, rest) ≡ Some y
     → spelled x ≡ n ∷ [] → Fits x → Takes (kind ∷ rest) (spelled y.0) y.1 × Fits y.0
 bare_takes {T} spelled Fits x n kind rest y octets k e is fits =
-    subst (λ (z : T × List ℕ). Takes (kind ∷ rest) (spelled z.0) z.1 × Fits z.0) (some_is (x, rest) y e)
+    subst (λ (z : T × List ℕ). Takes (kind ∷ rest) (spelled z.0) z.1 × Fits z.0) (same_Some (x, rest) y e)
     (record { parts = ap (λ (m : ℕ). m ∷ rest) (eqb-true kind n k) ∙ ap (λ (s : List ℕ). s ++ rest) (sym is); octets = octets }, fits)
 
 -- a kind that holds a field
@@ -246,15 +223,15 @@ kind_takes {A} {T} a sa Fa ca spelled Fits make n kind rest y octets k e is fits
     let made : T × List ℕ = (make p.0.0, p.0.1) in
     let whole : Takes (kind ∷ rest) (spelled made.0) made.1 =
     record { parts = ap (λ (m : ℕ). m ∷ rest) (eqb-true kind n k) ∙ ap (λ (s : List ℕ). n ∷ s) held.0.parts ∙ ap (λ (s : List ℕ). s ++ p.0.1) (sym (is p.0.0)); octets = held.0.octets } in
-    subst (λ (z : T × List ℕ). Takes (kind ∷ rest) (spelled z.0) z.1 × Fits z.0) (some_is made y p.2) (whole, fits p.0.0 held.1)
+    subst (λ (z : T × List ℕ). Takes (kind ∷ rest) (spelled z.0) z.1 × Fits z.0) (same_Some made y p.2) (whole, fits p.0.0 held.1)
 
 flag_takes : (bytes : List ℕ) (y : Bool × List ℕ) → AreOctets bytes → flag_at bytes ≡ Some y → Takes bytes (flag y.0) y.1 × Unit {0}
 unfolding flag_at
-flag_takes [] y octets e = absurd (none_is_some y e)
+flag_takes [] y octets e = absurd (none-some y e)
 flag_takes (b ∷ rest) y octets e =
     choose (eqb b 0) _ _ y e (λ k x. bare_takes flag (λ _. Unit {0}) false 0 b rest y (rest_octets b rest octets) k x refl tt)
     (λ e1. choose (eqb b 1) _ _ y e1 (λ k x. bare_takes flag (λ _. Unit {0}) true 1 b rest y (rest_octets b rest octets) k x refl tt)
-    (λ e2. absurd (none_is_some y e2)))
+    (λ e2. absurd (none-some y e2)))
 
 flag_again : (b : Bool) (rest : List ℕ) → Unit {0} → flag_at (flag b ++ rest) ≡ Some (b, rest)
 unfolding flag_at
@@ -266,11 +243,11 @@ flag_code = record { takes = flag_takes; again = flag_again }
 
 optional_takes : (bytes : List ℕ) (y : Option ℕ × List ℕ) → AreOctets bytes → optional_at bytes ≡ Some y → Takes bytes (optional y.0) y.1 × IsOptional y.0
 unfolding optional_at
-optional_takes [] y octets e = absurd (none_is_some y e)
+optional_takes [] y octets e = absurd (none-some y e)
 optional_takes (b ∷ rest) y octets e =
     choose (eqb b 0) _ _ y e (λ k x. bare_takes optional IsOptional None 0 b rest y (rest_octets b rest octets) k x refl tt)
     (λ e1. choose (eqb b 1) _ _ y e1 (λ k x. kind_takes number_at number IsNumber number_code optional IsOptional (λ n. Some n) 1 b rest y (rest_octets b rest octets) k x (λ n. refl) (λ n h. h))
-    (λ e2. absurd (none_is_some y e2)))
+    (λ e2. absurd (none-some y e2)))
 
 optional_again : (o : Option ℕ) (rest : List ℕ) → IsOptional o → optional_at (optional o ++ rest) ≡ Some (o, rest)
 unfolding optional_at

@@ -1,15 +1,17 @@
 -- The codes of keys and of the directory's records.
-use Rattle.std.proofs.Common.{◌≡◌, ℕ, Bool, true, false, eqb, List, [], ◌∷◌, ◌++◌, Option, Some, None, refl}
+use Rattle.std.proofs.Common.{◌≡◌, ℕ, eqb, List, [], ◌∷◌, ◌++◌, Some, refl}
+use Rattle.std.proofs.lemmas.Option.{none-some}
 use Rattle.sd_rules.specs.declared.keys.Key.{Key}
 use Rattle.sd_rules.specs.declared.keys.Key.TheVariants as keys
 use Rattle.sd_rules.specs.declared.records.Answered.{Answered}
 use Rattle.sd_rules.specs.declared.records.Answered.TheVariants.{Found, Absent}
 use Rattle.sd_rules.specs.declared.records.Record.{Record}
 use Rattle.sd_rules.specs.declared.records.Record.TheVariants as records
-use Rattle.sd_keeper.specs.Spelling.{number, long, text, list, flag, optional, user, group, group_ref, groups, host, element, rule, service, book, found, answer, key}
-use Rattle.sd_keeper.specs.Fitting.{IsNumber, IsLong, IsText, IsList, IsOptional, IsUser, IsGroup, IsGroupRef, AreGroups, IsHost, IsElement, IsRule, IsService, IsBook, IsRecord, IsAnswer, IsKey}
-use Rattle.sd_keeper.specs.Reading.{pair_at, made_at, number_at, long_at, text_at, list_at, flag_at, optional_at, user_of, user_at, group_of, group_at, group_ref_of, group_ref_at, groups_of, groups_at, host_of, host_at, element_of, element_at, rule_of, rule_at, service_of, service_at, book_of, book_at, record_at, answer_at, key_at}
-use Rattle.sd_keeper.proofs.Codes.{AreOctets, rest_octets, Takes, none_is_some, IsCode, pair_code, made_code, number_code, text_code, list_code, flag_code, optional_code, choose, bare_takes, kind_takes}
+use Rattle.sd_keeper.specs.Spelling.{number, text, list, user, group, group_ref, groups, host, element, rule, service, book, found, answer, key}
+use Rattle.sd_keeper.specs.Fitting.{IsNumber, IsText, IsList, IsUser, IsGroup, IsGroupRef, AreGroups, IsHost, IsElement, IsRule, IsService, IsBook, IsRecord, IsAnswer, IsKey}
+use Rattle.sd_keeper.specs.Reading.{number_at, text_at, list_at, user_of, user_at, group_of, group_at, group_ref_of, group_ref_at, groups_of, groups_at, host_of, host_at, element_of, element_at, rule_of, rule_at, service_of, service_at, book_of, book_at, record_at, answer_at, key_at}
+use Rattle.sd_base.proofs.Octets.{AreOctets, rest_octets}
+use Rattle.sd_keeper.proofs.Codes.{Takes, IsCode, pair_code, made_code, number_code, text_code, list_code, flag_code, optional_code, choose, bare_takes, kind_takes}
 
 -- lists of texts
 texts_code : IsCode (list_at text_at) (list text) (IsList IsText)
@@ -77,7 +79,7 @@ book_code =
 
 record_takes : (bytes : List ℕ) (y : Record × List ℕ) → AreOctets bytes → record_at bytes ≡ Some y → Takes bytes (found y.0) y.1 × IsRecord y.0
 unfolding record_at
-record_takes [] y octets e = absurd (none_is_some y e)
+record_takes [] y octets e = absurd (none-some y e)
 record_takes (kind ∷ rest) y octets e =
     let behind = rest_octets kind rest octets in
     choose (eqb kind 0) _ _ y e (λ k x. kind_takes user_at user IsUser user_code found IsRecord (λ u. records.User u) 0 kind rest y behind k x (λ u. refl) (λ u h. h))
@@ -85,7 +87,7 @@ record_takes (kind ∷ rest) y octets e =
     (λ e2. choose (eqb kind 2) _ _ y e2 (λ k x. kind_takes groups_at groups AreGroups groups_code found IsRecord (λ g. records.Groups g) 2 kind rest y behind k x (λ g. refl) (λ g h. h))
     (λ e3. choose (eqb kind 3) _ _ y e3 (λ k x. kind_takes host_at host IsHost host_code found IsRecord (λ g. records.Host g) 3 kind rest y behind k x (λ g. refl) (λ g h. h))
     (λ e4. choose (eqb kind 4) _ _ y e4 (λ k x. kind_takes book_at book IsBook book_code found IsRecord (λ b. records.Rules b) 4 kind rest y behind k x (λ b. refl) (λ b h. h))
-    (λ e5. absurd (none_is_some y e5))))))
+    (λ e5. absurd (none-some y e5))))))
 
 record_again : (r : Record) (rest : List ℕ) → IsRecord r → record_at (found r ++ rest) ≡ Some (r, rest)
 unfolding record_at
@@ -100,12 +102,12 @@ record_code = record { takes = record_takes; again = record_again }
 
 answer_takes : (bytes : List ℕ) (y : Answered × List ℕ) → AreOctets bytes → answer_at bytes ≡ Some y → Takes bytes (answer y.0) y.1 × IsAnswer y.0
 unfolding answer_at
-answer_takes [] y octets e = absurd (none_is_some y e)
+answer_takes [] y octets e = absurd (none-some y e)
 answer_takes (kind ∷ rest) y octets e =
     let behind = rest_octets kind rest octets in
     choose (eqb kind 0) _ _ y e (λ k x. kind_takes record_at found IsRecord record_code answer IsAnswer (λ r. Found r) 0 kind rest y behind k x (λ r. refl) (λ r h. h))
     (λ e1. choose (eqb kind 1) _ _ y e1 (λ k x. bare_takes answer IsAnswer Absent 1 kind rest y behind k x refl tt)
-    (λ e2. absurd (none_is_some y e2)))
+    (λ e2. absurd (none-some y e2)))
 
 answer_again : (a : Answered) (rest : List ℕ) → IsAnswer a → answer_at (answer a ++ rest) ≡ Some (a, rest)
 unfolding answer_at
@@ -117,7 +119,7 @@ answer_code = record { takes = answer_takes; again = answer_again }
 
 key_takes : (bytes : List ℕ) (y : Key × List ℕ) → AreOctets bytes → key_at bytes ≡ Some y → Takes bytes (key y.0) y.1 × IsKey y.0
 unfolding key_at
-key_takes [] y octets e = absurd (none_is_some y e)
+key_takes [] y octets e = absurd (none-some y e)
 key_takes (kind ∷ rest) y octets e =
     let behind = rest_octets kind rest octets in
     choose (eqb kind 0) _ _ y e (λ k x. kind_takes text_at text IsText text_code key IsKey (λ n. keys.User n) 0 kind rest y behind k x (λ n. refl) (λ n h. h))
@@ -127,7 +129,7 @@ key_takes (kind ∷ rest) y octets e =
     (λ e4. choose (eqb kind 4) _ _ y e4 (λ k x. kind_takes text_at text IsText text_code key IsKey (λ n. keys.GroupsOf n) 4 kind rest y behind k x (λ n. refl) (λ n h. h))
     (λ e5. choose (eqb kind 5) _ _ y e5 (λ k x. bare_takes key IsKey keys.Host 5 kind rest y behind k x refl tt)
     (λ e6. choose (eqb kind 6) _ _ y e6 (λ k x. bare_takes key IsKey keys.Rules 6 kind rest y behind k x refl tt)
-    (λ e7. absurd (none_is_some y e7))))))))
+    (λ e7. absurd (none-some y e7))))))))
 
 key_again : (k : Key) (rest : List ℕ) → IsKey k → key_at (key k ++ rest) ≡ Some (k, rest)
 unfolding key_at

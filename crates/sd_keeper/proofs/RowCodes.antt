@@ -3,7 +3,7 @@ use Rattle.std.proofs.Common.{◌≡◌, ℕ, ◌+◌, ◌^◌, ◌<◌, ◌≤�
 use Rattle.std.specs.Prelude.{IfOk, IfErr}
 use Rattle.std.proofs.lemmas.Bool.{eqb-true}
 use Rattle.std.proofs.lemmas.List.{append-nil, nil_from_length, length-replicate, take_all}
-use Rattle.std.proofs.lemmas.Option.{cond_some}
+use Rattle.std.proofs.lemmas.Option.{cond_some, none-some, same_Some}
 use Rattle.base64.specs.Engines.{standard}
 use Rattle.base64.specs.Rfc4648.{encode_symbols, unpadded_len, padding_len}
 use Rattle.base64.specs.GeneralPurpose.{encode_of, engine_symbols}
@@ -21,7 +21,8 @@ use Rattle.sd_keeper.specs.Spelling.{number, long, text, flag, key, answer, row_
 use Rattle.sd_keeper.specs.Fitting.{IsNumber, IsLong, IsText, IsKey, IsAnswer, IsRow}
 use Rattle.sd_keeper.specs.Reading.{Fails, Gives, pair_at, made_at, number_at, long_at, text_at, flag_at, key_at, answer_at, whole, head_of, head_at, answer_row_of, answer_row_at, wrong_of, wrong_at, fall_of, fall_at, online_of, online_at, online_by, plain_at, hashed_at}
 use Rattle.sd_keeper.specs.Blobs.{is_online, is_of_version, is_hash_row, begins_as_hash, IsBlobOf, Reads}
-use Rattle.sd_keeper.proofs.Codes.{AreOctets, rest_octets, Takes, some_is, none_is_some, IsCode, pair_code, number_code, long_code, text_code, flag_code, choose, kind_takes}
+use Rattle.sd_base.proofs.Octets.{AreOctets}
+use Rattle.sd_keeper.proofs.Codes.{Takes, IsCode, pair_code, number_code, long_code, text_code, flag_code, choose, kind_takes}
 use Rattle.sd_keeper.proofs.RecordCodes.{answer_code, key_code}
 
 -- ---- the text of a hash has a length of four octets
@@ -48,7 +49,7 @@ hash_text_fits h is = four_parts (codes "$sd1$") (encode_of standard h.salt) (co
 -- ---- whole blobs
 
 whole_is : {T : Type 0} (o : Option (T × List ℕ)) (x : T) → whole o ≡ Some x → o ≡ Some (x, [])
-whole_is None x e = absurd (none_is_some x e)
+whole_is None x e = absurd (none-some x e)
 whole_is {T} (Some y) x e =
     let p : (eqb (length y.1) 0 ≡ true) × (y.0 ≡ x) = cond_some (eqb (length y.1) 0) y.0 x e in
     let none : y.1 ≡ [] = nil_from_length y.1 (eqb-true _ _ p.0) in
@@ -80,7 +81,7 @@ hashed_code = pair_code _ _ _ _ _ _ long_code (pair_code _ _ _ _ _ _ long_code (
 
 online_takes : (version : Version) (kind : ℕ) (bytes : List ℕ) (y : Row × List ℕ) → AreOctets bytes → eqb kind 5 ≡ true → online_by version bytes ≡ Some y → Takes (kind ∷ bytes) (row_bytes y.0) y.1 × (is_of_version version y.0 ≡ true)
 unfolding online_at
-online_takes versions.First kind bytes y octets k e = absurd (none_is_some y e)
+online_takes versions.First kind bytes y octets k e = absurd (none-some y e)
 online_takes versions.Second kind bytes y octets k e =
     kind_takes _ _ _ online_code row_bytes (λ r. is_of_version versions.Second r ≡ true) online_of 5 kind bytes y octets k e (λ p. refl) (λ p h. refl)
 
@@ -92,7 +93,7 @@ plain_takes version kind bytes y octets e =
     (λ e3. choose (eqb kind 3) _ _ y e3 (λ k x. kind_takes _ _ _ wrong_code row_bytes (λ r. is_of_version version r ≡ true) wrong_of 3 kind bytes y octets k x (λ p. refl) (λ p h. refl))
     (λ e4. choose (eqb kind 4) _ _ y e4 (λ k x. kind_takes _ _ _ fall_code row_bytes (λ r. is_of_version version r ≡ true) fall_of 4 kind bytes y octets k x (λ p. refl) (λ p h. refl))
     (λ e5. choose (eqb kind 5) _ _ y e5 (λ k x. online_takes version kind bytes y octets k x)
-    (λ e6. absurd (none_is_some y e6))))))
+    (λ e6. absurd (none-some y e6))))))
 
 pub plain_found : (version : Version) (kind : ℕ) (bytes : List ℕ) (row : Row) → AreOctets bytes → whole (plain_at version kind bytes) ≡ Some row → IsBlobOf version (kind ∷ bytes) row
 plain_found version kind bytes row octets e =
@@ -122,8 +123,8 @@ plain_again versions.Second (rows.Online n m name) kind bytes fits of e k = at_k
 
 pub plain_only : (version : Version) (result : Result Row FieldFault) (kind : ℕ) (bytes : List ℕ) → Gives (λ row. row) result (whole (plain_at version kind bytes)) → eqb kind 2 ≡ false
     → (row : Row) → IsRow row → is_of_version version row ≡ true → kind ∷ bytes ≡ row_bytes row → Reads result row
-plain_only version (Ok read) kind bytes given k row fits of e = some_is read row (sym given ∙ plain_again version row kind bytes fits of e k)
-plain_only version (Err faults.Bad) kind bytes given k row fits of e = none_is_some row (sym given ∙ plain_again version row kind bytes fits of e k)
+plain_only version (Ok read) kind bytes given k row fits of e = same_Some read row (sym given ∙ plain_again version row kind bytes fits of e k)
+plain_only version (Err faults.Bad) kind bytes given k row fits of e = none-some row (sym given ∙ plain_again version row kind bytes fits of e k)
 plain_only version (Err faults.Memory) kind bytes given k row fits of e = tt
 
 -- ---- rows of hashes
@@ -156,11 +157,11 @@ hash_by bytes (rows.Online n m name) fits e then = absurd (let p = same_parts 2 
 -- bytes that give no parts
 pub hash_not_read : (fault : FieldFault) (bytes : List ℕ) → Fails fault (whole (hashed_at bytes)) → (row : Row) → IsRow row → 2 ∷ bytes ≡ row_bytes row → Reads (Err fault) row
 hash_not_read faults.Memory bytes failed row fits e = tt
-hash_not_read faults.Bad bytes failed row fits e = hash_by bytes row fits e (λ n m name hash is sound there. none_is_some (n, (m, (name, text_of hash))) (sym failed ∙ there))
+hash_not_read faults.Bad bytes failed row fits e = hash_by bytes row fits e (λ n m name hash is sound there. none-some (n, (m, (name, text_of hash))) (sym failed ∙ there))
 
 parts_are : (n m k l : ℕ) (name user hashed told : List ℕ) → ◌≡◌ {A = Option (ℕ × (ℕ × (List ℕ × List ℕ)))} (Some (n, (m, (name, hashed)))) (Some (k, (l, (user, told)))) → (n ≡ k) × (m ≡ l) × (name ≡ user) × (hashed ≡ told)
 parts_are n m k l name user hashed told e =
-    let p : ◌≡◌ {A = ℕ × (ℕ × (List ℕ × List ℕ))} (n, (m, (name, hashed))) (k, (l, (user, told))) = some_is _ _ e in
+    let p : ◌≡◌ {A = ℕ × (ℕ × (List ℕ × List ℕ))} (n, (m, (name, hashed))) (k, (l, (user, told))) = same_Some _ _ e in
     (ap (λ (q : ℕ × (ℕ × (List ℕ × List ℕ))). q.0) p, ap (λ (q : ℕ × (ℕ × (List ℕ × List ℕ))). q.1.0) p, ap (λ (q : ℕ × (ℕ × (List ℕ × List ℕ))). q.1.1.0) p, ap (λ (q : ℕ × (ℕ × (List ℕ × List ℕ))). q.1.1.1) p)
 
 same_ok : {T E : Type 0} (x y : T) → ◌≡◌ {A = Result T E} (Ok x) (Ok y) → x ≡ y

@@ -3,7 +3,8 @@ use Rattle.std.proofs.Common.{◌≡◌, ℕ, ◌+◌, ◌^◌, ◌<◌, ◌≤�
 use Rattle.std.specs.Option.{option_map}
 use Rattle.std.specs.Int.{w16, w32, to_be_bytes, from_be_bytes}
 use Rattle.std.proofs.lemmas.Bool.{le-ltb, ltb-false, ltb-true, eqb-true, eqb-false, cases_lt}
-use Rattle.std.proofs.lemmas.List.{append-nil, length-take, length-take-le, length-drop, take-append-drop, take_at, drop_at, get_or-take, get_or-drop, get_or_past}
+use Rattle.std.proofs.lemmas.List.{append-nil, length-take-le, length-drop, take-append-drop, take_at, drop_at}
+use Rattle.std.proofs.lemmas.Option.{none-some, same_Some}
 use Rattle.std.proofs.lemmas.Nat.{be_bytes_2, be_bytes_4}
 use Rattle.sd_rules.specs.declared.keys.What.{What}
 use Rattle.sd_rules.specs.declared.keys.What.TheVariants as whats
@@ -13,46 +14,24 @@ use Rattle.sd_wire.specs.declared.frames.Framed.{Framed}
 use Rattle.sd_wire.specs.declared.frames.Framed.TheVariants as framings
 use Rattle.sd_wire.specs.Frames.{is_name, is_password, is_sound, is_sound_what, number_of, IsCarried, text_field, number_field, what_field, body_of, frame_of, BeginsWith, told_length, IsInRange, IsOutOfRange, IsCut, HasNoForm, IsBad, SaysOf}
 use Rattle.sd_wire.specs.Framing.{cut_at, text_in, alone, text_alone, if_name, name_alone, with_first, then_alone, pair_alone, number_alone, as_login, as_access, bare, what_by, what_in, order_by, request_by, request_in, framed_as, framed_by, framed, Reads}
+use Rattle.sd_base.proofs.Octets.{AreOctets, front_octets, back_octets}
 use Rattle.sd_wire.proofs.FramesAgain.{frame_again, frame_length}
 
--- ---- octets
-
--- each is an octet
-pub record AreOctets (bytes : List ℕ) : Type 0 where
-  pub each : (i : ℕ) → get_or bytes i 0 < 256
-
-front_octets : (n : ℕ) (bytes : List ℕ) → AreOctets bytes → AreOctets (take n bytes)
-front_octets n bytes h = record {
-  each = λ i. elim (cases_lt i n) [
-    | inl below ↦ omega (arith, get_or-take n bytes i 0 below, h.each i)
-    | inr past ↦ omega (arith, get_or_past (take n bytes) i 0 (omega (arith, length-take n bytes)))
-  ];
-}
-
-back_octets : (n : ℕ) (bytes : List ℕ) → AreOctets bytes → AreOctets (drop n bytes)
-back_octets n bytes h = record { each = λ i. omega (arith, get_or-drop n bytes i 0, h.each (n + i)) }
-
 -- ---- choices
-
-some_is : {T : Type 0} (x y : T) → Some x ≡ Some y → x ≡ y
-some_is x y e = cc
-
-none_is_some : {T : Type 0} (x : T) → None ≡ Some x → ⊥
-none_is_some x e = cc
 
 -- what a test lets through
 passed : {T : Type 0} (b : Bool) (o : Option T) (x : T) → cond b o None ≡ Some x → (b ≡ true) × (o ≡ Some x)
 passed true o x e = (refl, e)
-passed false o x e = absurd (none_is_some x e)
+passed false o x e = absurd (none-some x e)
 
 -- what a refusal lets by
 let_by : {T : Type 0} (b : Bool) (o : Option T) (x : T) → cond b None o ≡ Some x → (b ≡ false) × (o ≡ Some x)
-let_by true o x e = absurd (none_is_some x e)
+let_by true o x e = absurd (none-some x e)
 let_by false o x e = (refl, e)
 
 mapped : {T U : Type 0} (f : T → U) (o : Option T) (y : U) → option_map f o ≡ Some y → (x : T) × (o ≡ Some x) × (f x ≡ y)
-mapped f None y e = absurd (none_is_some y e)
-mapped f (Some x) y e = (x, refl, some_is (f x) y e)
+mapped f None y e = absurd (none-some y e)
+mapped f (Some x) y e = (x, refl, same_Some (f x) y e)
 
 -- ---- fields
 
@@ -77,7 +56,7 @@ parts_are : (p q : List ℕ × List ℕ) → p ≡ q → (p.0 ≡ q.0) × (p.1 �
 parts_are p q e = (ap (λ (r : List ℕ × List ℕ). r.0) e, ap (λ (r : List ℕ × List ℕ). r.1) e)
 
 pair_is : (a b c d : List ℕ) → some_pair a b ≡ some_pair c d → (a ≡ c) × (b ≡ d)
-pair_is a b c d e = parts_are (a, b) (c, d) (some_is (a, b) (c, d) e)
+pair_is a b c d e = parts_are (a, b) (c, d) (same_Some (a, b) (c, d) e)
 
 text_found : (bytes text rest : List ℕ) → AreOctets bytes → text_in bytes ≡ some_pair text rest → bytes ≡ text_field text ++ rest
 text_found bytes text rest h e =
@@ -94,35 +73,35 @@ no_length [] e = refl
 no_length (x ∷ xs) e = absurd (let none : length (x ∷ xs) ≡ 0 = eqb-true _ _ e in omega arith)
 
 alone_by : (bytes text : List ℕ) (found : Option (List ℕ × List ℕ)) → AreOctets bytes → text_in bytes ≡ found → alone found ≡ Some text → bytes ≡ text_field text
-alone_by bytes text None h was e = absurd (none_is_some text e)
+alone_by bytes text None h was e = absurd (none-some text e)
 alone_by bytes text (Some found) h was e =
     let parts : (eqb (length found.1) 0 ≡ true) × (Some found.0 ≡ Some text) = passed _ _ _ e in
-    text_found bytes found.0 found.1 h was ∙ ap (λ (rest : List ℕ). text_field found.0 ++ rest) (no_length found.1 parts.0) ∙ append-nil (text_field found.0) ∙ ap text_field (some_is _ _ parts.1)
+    text_found bytes found.0 found.1 h was ∙ ap (λ (rest : List ℕ). text_field found.0 ++ rest) (no_length found.1 parts.0) ∙ append-nil (text_field found.0) ∙ ap text_field (same_Some _ _ parts.1)
 
 alone_found : (bytes text : List ℕ) → AreOctets bytes → text_alone bytes ≡ Some text → bytes ≡ text_field text
 alone_found bytes text h e = alone_by bytes text (text_in bytes) h refl e
 
 name_by : (bytes name : List ℕ) (found : Option (List ℕ)) → AreOctets bytes → text_alone bytes ≡ found → if_name found ≡ Some name → (is_name name ≡ true) × (bytes ≡ text_field name)
-name_by bytes name None h was e = absurd (none_is_some name e)
+name_by bytes name None h was e = absurd (none-some name e)
 name_by bytes name (Some text) h was e =
     let parts : (is_name text ≡ true) × (Some text ≡ Some name) = passed _ _ _ e in
-    let same : text ≡ name = some_is _ _ parts.1 in
+    let same : text ≡ name = same_Some _ _ parts.1 in
     (sym (ap is_name same) ∙ parts.0, alone_found bytes text h was ∙ ap text_field same)
 
 name_found : (bytes name : List ℕ) → AreOctets bytes → name_alone bytes ≡ Some name → (is_name name ≡ true) × (bytes ≡ text_field name)
 name_found bytes name h e = name_by bytes name (text_alone bytes) h refl e
 
 second_by : (bytes first rest second : List ℕ) (other : List ℕ × List ℕ) (found : Option (List ℕ)) → AreOctets rest → text_alone rest ≡ found → with_first first found ≡ Some other → (first ≡ other.0) × (rest ≡ text_field other.1)
-second_by bytes first rest second other None h was e = absurd (none_is_some other e)
+second_by bytes first rest second other None h was e = absurd (none-some other e)
 second_by bytes first rest second other (Some text) h was e =
-    let same : (first, text) ≡ other = some_is _ _ e in
+    let same : (first, text) ≡ other = same_Some _ _ e in
     (ap (λ (p : List ℕ × List ℕ). p.0) same, alone_found rest text h was ∙ ap (λ (p : List ℕ × List ℕ). text_field p.1) same)
 
 append_octets : (xs ys : List ℕ) → AreOctets (xs ++ ys) → AreOctets ys
 append_octets xs ys h = subst AreOctets (drop_at xs ys (length xs) refl) (back_octets (length xs) (xs ++ ys) h)
 
 pair_by : (bytes : List ℕ) (other : List ℕ × List ℕ) (found : Option (List ℕ × List ℕ)) → AreOctets bytes → text_in bytes ≡ found → then_alone found ≡ Some other → bytes ≡ text_field other.0 ++ text_field other.1
-pair_by bytes other None h was e = absurd (none_is_some other e)
+pair_by bytes other None h was e = absurd (none-some other e)
 pair_by bytes other (Some found) h was e =
     let whole : bytes ≡ text_field found.0 ++ found.1 = text_found bytes found.0 found.1 h was in
     let rest : AreOctets found.1 = append_octets (text_field found.0) found.1 (subst AreOctets whole h) in
@@ -137,7 +116,7 @@ number_found : (bytes : List ℕ) (n : ℕ) → AreOctets bytes → number_alone
 number_found bytes n h e =
     let parts : (eqb (length bytes) 4 ≡ true) × (Some (from_be_bytes w32 bytes) ≡ Some n) = passed _ _ _ e in
     let back : to_be_bytes w32 (from_be_bytes w32 bytes) ≡ bytes = four_back bytes h (eqb-true _ _ parts.0) in
-    let same : from_be_bytes w32 bytes ≡ n = some_is _ _ parts.1 in
+    let same : from_be_bytes w32 bytes ≡ n = same_Some _ _ parts.1 in
     (sym back ∙ ap (λ (k : ℕ). to_be_bytes w32 k) same, omega (arith, same, h.each 0, h.each 1, h.each 2, h.each 3))
 
 -- ---- bodies
@@ -149,7 +128,7 @@ choose false x y r e f g = g e
 bare_found : {T : Type 0} (word found : T) (fields : List ℕ) → bare word fields ≡ Some found → (fields ≡ []) × (word ≡ found)
 bare_found word found fields e =
     let parts : (eqb (length fields) 0 ≡ true) × (Some word ≡ Some found) = passed _ _ _ e in
-    (no_length fields parts.0, some_is _ _ parts.1)
+    (no_length fields parts.0, same_Some _ _ parts.1)
 
 -- a kind and its fields are those of a What
 pub record AreThoseOf (kind : ℕ) (fields : List ℕ) (what : What) : Type 0 where
@@ -182,10 +161,10 @@ what_by_found kind fields what h e =
     (λ e2. choose (eqb kind 2) _ _ what e2 (λ k x. bare_what what whats.Users kind 2 fields k x refl refl)
     (λ e3. choose (eqb kind 3) _ _ what e3 (λ k x. named_what whats.Group what kind 3 fields h k x (λ n. refl) (λ n. refl))
     (λ e4. choose (eqb kind 4) _ _ what e4 (λ k x. bare_what what whats.Groups kind 4 fields k x refl refl)
-    (λ e5. absurd (none_is_some what e5))))))
+    (λ e5. absurd (none-some what e5))))))
 
 what_found : (fields : List ℕ) (what : What) → AreOctets fields → what_in fields ≡ Some what → (is_sound_what what ≡ true) × (fields ≡ what_field what)
-what_found [] what h e = absurd (none_is_some what e)
+what_found [] what h e = absurd (none-some what e)
 what_found (kind ∷ fields) what h e =
     let those : AreThoseOf kind fields what = what_by_found kind fields what (back_octets 1 (kind ∷ fields) h) e in
     (those.sound, those.spelled)
@@ -224,16 +203,16 @@ numbered_request make request command n fields h k e sound same is =
     found_as request (make found.0) command n fields (number_field found.0) (eqb-true _ _ k) number.0 found.2 (sound found.0) (omega (arith, same found.0, number.1)) (is found.0)
 
 login_by : (request : Request) (command : ℕ) (fields : List ℕ) (found : Option (List ℕ × List ℕ)) → AreOctets fields → eqb command 16 ≡ true → pair_alone fields ≡ found → as_login found ≡ Some request → AreFieldsOf command fields request
-login_by request command fields None h k was e = absurd (none_is_some request e)
+login_by request command fields None h k was e = absurd (none-some request e)
 login_by request command fields (Some found) h k was e =
     let parts : ((is_name found.0 && is_password found.1) ≡ true) × (Some (requests.Login found.0 found.1) ≡ Some request) = passed _ _ _ e in
-    found_as request (requests.Login found.0 found.1) command 16 fields (text_field found.0 ++ text_field found.1) (eqb-true _ _ k) (pair_found fields found h was) (some_is _ _ parts.1) parts.0 no_number refl
+    found_as request (requests.Login found.0 found.1) command 16 fields (text_field found.0 ++ text_field found.1) (eqb-true _ _ k) (pair_found fields found h was) (same_Some _ _ parts.1) parts.0 no_number refl
 
 access_by : (request : Request) (command : ℕ) (fields : List ℕ) (found : Option (List ℕ × List ℕ)) → AreOctets fields → eqb command 17 ≡ true → pair_alone fields ≡ found → as_access found ≡ Some request → AreFieldsOf command fields request
-access_by request command fields None h k was e = absurd (none_is_some request e)
+access_by request command fields None h k was e = absurd (none-some request e)
 access_by request command fields (Some found) h k was e =
     let parts : ((is_name found.0 && is_name found.1) ≡ true) × (Some (requests.Access found.0 found.1) ≡ Some request) = passed _ _ _ e in
-    found_as request (requests.Access found.0 found.1) command 17 fields (text_field found.0 ++ text_field found.1) (eqb-true _ _ k) (pair_found fields found h was) (some_is _ _ parts.1) parts.0 no_number refl
+    found_as request (requests.Access found.0 found.1) command 17 fields (text_field found.0 ++ text_field found.1) (eqb-true _ _ k) (pair_found fields found h was) (same_Some _ _ parts.1) parts.0 no_number refl
 
 void_request : (request : Request) (command : ℕ) (fields : List ℕ) → AreOctets fields → eqb command 32 ≡ true → option_map requests.Void (what_in fields) ≡ Some request → AreFieldsOf command fields request
 void_request request command fields h k e =
@@ -247,7 +226,7 @@ order_found command fields request h e =
     (λ e1. choose (eqb command 33) _ _ request e1 (λ k x. bare_request request requests.Offline command 33 fields k x refl refl refl)
     (λ e2. choose (eqb command 34) _ _ request e2 (λ k x. bare_request request requests.Online command 34 fields k x refl refl refl)
     (λ e3. choose (eqb command 35) _ _ request e3 (λ k x. bare_request request requests.Stop command 35 fields k x refl refl refl)
-    (λ e4. absurd (none_is_some request e4)))))
+    (λ e4. absurd (none-some request e4)))))
 
 request_found : (command : ℕ) (fields : List ℕ) (request : Request) → AreOctets fields → request_by command fields ≡ Some request → AreFieldsOf command fields request
 request_found command fields request h e =
@@ -261,7 +240,7 @@ request_found command fields request h e =
     (λ e7. order_found command fields request h e7)))))))
 
 body_found : (body : List ℕ) (request : Request) → AreOctets body → request_in body ≡ Some request → IsCarried request × (body ≡ body_of request)
-body_found [] request h e = absurd (none_is_some request e)
+body_found [] request h e = absurd (none-some request e)
 body_found (command ∷ fields) request h e =
     let those : AreFieldsOf command fields request = request_found command fields request (back_octets 1 (command ∷ fields) h) e in
     (those.carried, those.spelled)
