@@ -2,5 +2,5 @@ mod Rounds
 mod Folded
 mod Pieces
 mod Decoded
-mod Read
+pub mod Read
 pub mod Journal

@@ -1,13 +1,11 @@
 -- What is read of a whole blob is its row, and a row's bytes are read as that row.
-use Rattle.std.proofs.Common.{◌≡◌, ℕ, ◌+◌, ◌^◌, ◌<◌, ◌≤◌, ◌-◌, get_or, take, drop, Bool, true, false, ◌&&◌, not, cond, eqb, List, [], ◌∷◌, ◌++◌, length, codes, Option, Some, None, Result, Ok, Err, refl, sym, ap, subst, ◌∙◌, arith, replicate, length-append}
+use Rattle.std.proofs.Common.{◌≡◌, ℕ, ◌^◌, ◌<◌, ◌≤◌, ◌-◌, get_or, take, drop, Bool, true, false, ◌&&◌, not, eqb, List, [], ◌∷◌, ◌++◌, length, codes, Option, Some, None, Result, Ok, Err, refl, sym, ap, subst, ◌∙◌, arith, length-append}
 use Rattle.std.specs.Prelude.{IfOk, IfErr}
 use Rattle.std.proofs.lemmas.Bool.{eqb-true}
-use Rattle.std.proofs.lemmas.List.{append-nil, nil_from_length, length-replicate, take_all}
+use Rattle.std.proofs.lemmas.List.{append-nil, nil_from_length, take_all}
 use Rattle.std.proofs.lemmas.Option.{cond_some, none-some, same_Some}
 use Rattle.base64.specs.Engines.{standard}
-use Rattle.base64.specs.Rfc4648.{encode_symbols, unpadded_len, padding_len}
-use Rattle.base64.specs.GeneralPurpose.{encode_of, engine_symbols}
-use Rattle.base64.proofs.RoundTrip.{length-encode_symbols}
+use Rattle.base64.specs.GeneralPurpose.{encode_of}
 use Rattle.sd_rules.specs.declared.events.Hash.{Hash}
 use Rattle.sd_rules.specs.declared.events.Row.{Row}
 use Rattle.sd_rules.specs.declared.events.Row.TheVariants as rows
@@ -21,24 +19,12 @@ use Rattle.sd_keeper.specs.Spelling.{number, long, text, flag, key, answer, row_
 use Rattle.sd_keeper.specs.Fitting.{IsNumber, IsLong, IsText, IsKey, IsAnswer, IsRow}
 use Rattle.sd_keeper.specs.Reading.{Fails, Gives, pair_at, made_at, number_at, long_at, text_at, flag_at, key_at, answer_at, whole, head_of, head_at, answer_row_of, answer_row_at, wrong_of, wrong_at, fall_of, fall_at, online_of, online_at, online_by, plain_at, hashed_at}
 use Rattle.sd_keeper.specs.Blobs.{is_online, is_of_version, is_hash_row, begins_as_hash, IsBlobOf, Reads}
+use Rattle.sd_creds.proofs.Read.{salt_len, digest_len}
 use Rattle.sd_base.proofs.Octets.{AreOctets}
 use Rattle.sd_keeper.proofs.Codes.{Takes, IsCode, pair_code, number_code, long_code, text_code, flag_code, choose, kind_takes}
 use Rattle.sd_keeper.proofs.RecordCodes.{answer_code, key_code}
 
 -- ---- the text of a hash has a length of four octets
-
-encoded_len : (b : List ℕ) → length (encode_of standard b) ≡ unpadded_len (length b) + padding_len (length b)
-encoded_len b =
-    let padding : List ℕ = replicate (padding_len (length b)) 61 in
-    length-append (encode_symbols (engine_symbols standard) b) padding
-    ∙ ap (λ (n : ℕ). n + length padding) (length-encode_symbols (engine_symbols standard) b)
-    ∙ ap (λ (n : ℕ). unpadded_len (length b) + n) (length-replicate {A = ℕ} (padding_len (length b)) 61)
-
-salt_len : (b : List ℕ) → length b ≡ 16 → length (encode_of standard b) ≡ 24
-salt_len b e = encoded_len b ∙ ap (λ (n : ℕ). unpadded_len n + padding_len n) e
-
-digest_len : (b : List ℕ) → length b ≡ 64 → length (encode_of standard b) ≡ 88
-digest_len b e = encoded_len b ∙ ap (λ (n : ℕ). unpadded_len n + padding_len n) e
 
 four_parts : (a s b d : List ℕ) → length a ≡ 5 → length s ≡ 24 → length b ≡ 1 → length d ≡ 88 → length (((a ++ s) ++ b) ++ d) < 2 ^ 32
 four_parts a s b d la ls lb ld = omega (arith, length-append ((a ++ s) ++ b) d, length-append (a ++ s) b, length-append a s)
