@@ -1,5 +1,5 @@
 -- Numbers that fall, and the entries of numbers.
-use Rattle.std.proofs.Common.{◌≡◌, ℕ, ◌+◌, ◌<◌, ◌≤◌, Bool, true, false, cond, ◌&&◌, ◌==◌, nat_lt, List, [], ◌∷◌, Option, None, Some, refl, sym, ◌∙◌, ap, arith}
+use Rattle.std.proofs.Common.{◌≡◌, ℕ, ◌+◌, ◌<◌, ◌≤◌, Bool, true, false, cond, ◌&&◌, ◌==◌, nat_lt, List, [], ◌∷◌, ◌++◌, Option, None, Some, refl, sym, ◌∙◌, ap, arith}
 use Rattle.std.proofs.lemmas.Bool.Decides.{nat_tests}
 use Rattle.std.specs.Option.{option_map, option_and_then}
 use Rattle.sd_rules.specs.declared.keys.Key.{Key}
@@ -54,6 +54,14 @@ fall_further n m [] h le = refl
 fall_further n m (e ∷ past) h le =
     let lt : e.number < n = head_below n e past h in
     both_of_two (nat_lt e.number m) (numbers_fall e.number past) (tests_less e.number m (omega arith)) (tail_falls n e past h)
+
+-- entries that stand after others have greater numbers
+pub above : (xs : List Entry) (e : Entry) (past : List Entry) (n : ℕ) → numbers_fall n (xs ++ e ∷ past) ≡ true → e.number < n
+above [] e past n h = head_below n e past h
+above (x ∷ xs) e past n h =
+    let lt : x.number < n = head_below n x (xs ++ e ∷ past) h in
+    let near : e.number < x.number = above xs e past x.number (tail_falls n x (xs ++ e ∷ past) h) in
+    omega arith
 
 -- what falls falls from some number
 pub falls_from_some : (past : List Entry) → falls past ≡ true → (n : ℕ) × (numbers_fall n past ≡ true)

@@ -3,15 +3,7 @@ use Rattle.std.proofs.Common.{◌≡◌, ℕ, ◌<◌, ◌≤◌, Bool, true, co
 use Rattle.std.proofs.lemmas.List.{append_assoc, reverse-append, length-drop, get_or-drop, take-append-drop}
 use Rattle.sd_rules.specs.declared.replies.Entry.{Entry}
 use Rattle.sd_index.specs.Entries.{numbers_fall, falls, entry_at, Searches}
-use Rattle.sd_index.proofs.FallLaws.{both_of_two, first_of_two, head_below, tail_falls, falls_from_some, falls_of, not_same_above, none_from, same_self}
-
--- entries that stand after others have greater numbers
-above : (xs : List Entry) (e : Entry) (past : List Entry) (n : ℕ) → numbers_fall n (xs ++ e ∷ past) ≡ true → e.number < n
-above [] e past n h = head_below n e past h
-above (x ∷ xs) e past n h =
-    let lt : x.number < n = head_below n x (xs ++ e ∷ past) h in
-    let near : e.number < x.number = above xs e past x.number (tail_falls n x (xs ++ e ∷ past) h) in
-    omega arith
+use Rattle.sd_index.proofs.FallLaws.{both_of_two, first_of_two, tail_falls, above, falls_from_some, falls_of, not_same_above, none_from, same_self}
 
 last_falls : (xs : List Entry) (e : Entry) (past : List Entry) (n : ℕ) → numbers_fall n (xs ++ e ∷ past) ≡ true → numbers_fall e.number past ≡ true
 last_falls [] e past n h = tail_falls n e past h

@@ -2,7 +2,7 @@ pub mod FallLaws
 pub mod Halves
 mod OutageLaws
 mod BoundLaws
-mod VoidLaws
+pub mod VoidLaws
 pub mod PlaceLaws
 mod FoundLaws
 pub mod CountLaws

@@ -95,14 +95,14 @@ closed_number true o a n h f = f h
 closed_number false o a n h f = cc
 
 -- an answer has the number of its entry
-answer_number : (past : List Entry) (e : Entry) (event : Event) (a : Standing) → answer_by past e event ≡ Some a → a.number ≡ e.number
+pub answer_number : (past : List Entry) (e : Entry) (event : Event) (a : Standing) → answer_by past e event ≡ Some a → a.number ≡ e.number
 answer_number past e (Answer request answered) a h =
     closed_number (is_closed e.reply) (answer_under e answered (key_of past request)) a e.number h (under_number e answered (key_of past request) a)
 answer_number past e (Kept (rows.Answer n m own answered marked)) a h = cc
 answer_number past e _ a h = cc
 
 -- and its entry voids nothing
-answer_voids_none : (past : List Entry) (e : Entry) (event : Event) (a : Standing) (own : Key) (answered : Answered) → answer_by past e event ≡ Some a
+pub answer_voids_none : (past : List Entry) (e : Entry) (event : Event) (a : Standing) (own : Key) (answered : Answered) → answer_by past e event ≡ Some a
     → voids event own answered ≡ false
 answer_voids_none past e (Void what) a own answered h = cc
 answer_voids_none past e _ a own answered h = refl
@@ -128,7 +128,7 @@ newest_before (e ∷ past) n k a falls h =
     (λ here. let same : a.number ≡ e.number = answer_number past e e.event a (spoken_is k (answer_in past e) a here) in omega arith)
     (λ there. let before : a.number < e.number = newest_before past e.number k a (tail_falls n e past falls) there in omega arith)
 
-voided_here : (e : Entry) (a : Standing) (v w : Bool) (l : ℕ) → a.number ≡ e.number → v ≡ false → l ≤ e.number
+pub voided_here : (e : Entry) (a : Standing) (v w : Bool) (l : ℕ) → a.number ≡ e.number → v ≡ false → l ≤ e.number
     → cond (e.number == a.number) false (v || w) ≡ nat_lt a.number (cond v e.number l)
 voided_here e a v w l same none before =
     let eq : (e.number == a.number) ≡ true = ap (λ (x : ℕ). e.number == x) same ∙ same_self e.number in
@@ -141,7 +141,7 @@ voided_later : (v w : Bool) (n m l : ℕ) → n < m → w ≡ nat_lt n l → (v 
 voided_later true w n m l lt h = sym (tests_less n m lt)
 voided_later false w n m l lt h = h
 
-voided_there : (e : Entry) (a : Standing) (v w : Bool) (l : ℕ) → a.number < e.number → w ≡ nat_lt a.number l
+pub voided_there : (e : Entry) (a : Standing) (v w : Bool) (l : ℕ) → a.number < e.number → w ≡ nat_lt a.number l
     → cond (e.number == a.number) false (v || w) ≡ nat_lt a.number (cond v e.number l)
 voided_there e a v w l lt h =
     ap (λ (b : Bool). cond b false (v || w)) (not_same_above e.number a.number lt) ∙ voided_later v w a.number e.number l lt h

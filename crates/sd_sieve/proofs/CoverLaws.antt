@@ -18,7 +18,7 @@ use Rattle.sd_rules.specs.Logins.{is_name}
 use Rattle.sd_rules.specs.Needed.{same_what, is_void_of, is_number, last_where, is_newest_answer, is_covered, covers_newest}
 use Rattle.sd_rules.specs.Past.{Standing, answer_in, or_else}
 use Rattle.sd_index.specs.Entries.{numbers_fall, falls}
-use Rattle.sd_index.proofs.FallLaws.{head_below, tail_falls, fall_further, falls_from_some, tests_less, tests_not_less}
+use Rattle.sd_index.proofs.FallLaws.{above, head_below, tail_falls, fall_further, falls_from_some, tests_less, tests_not_less}
 use Rattle.sd_sieve.specs.Covers.{number_for, HoldVoids, first_of, first_if, PutFirst, is_either, is_about_users, is_about_groups, user_of_key, group_of_key, user_found, group_found, first_covered, where_last, HoldCovered, is_before}
 use Rattle.sd_sieve.specs.Users.{number_under}
 use Rattle.sd_sieve.specs.declared.covers.ByWhat.{ByWhat}
@@ -180,14 +180,6 @@ covered_none all lasts firsts none = record { each = λ what. none what ∙ sym 
     where_none : (last : Option ℕ) → where_last last None ≡ None
     where_none None = refl
     where_none (Some l) = refl
-
--- entries that stand after others have greater numbers
-above : (xs : List Entry) (e : Entry) (past : List Entry) (n : ℕ) → numbers_fall n (xs ++ e ∷ past) ≡ true → e.number < n
-above [] e past n h = head_below n e past h
-above (x ∷ xs) e past n h =
-    let lt : x.number < n = head_below n x (xs ++ e ∷ past) h in
-    let near : e.number < x.number = above xs e past x.number (tail_falls n x (xs ++ e ∷ past) h) in
-    omega arith
 
 -- the first of two, the second of which is an entry's
 none_later : (b : Bool) (m n : ℕ) (first : Option ℕ) → n ≤ m → is_before (or_else first (cond b (Some m) None)) n ≡ is_before first n

@@ -6,7 +6,7 @@ use Rattle.sd_rules.specs.declared.replies.Entry.{Entry}
 use Rattle.sd_rules.specs.Logins.{accepts}
 use Rattle.sd_rules.specs.Needed.{is_since_accepted}
 use Rattle.sd_index.specs.Entries.{numbers_fall, falls}
-use Rattle.sd_index.proofs.FallLaws.{head_below, tail_falls, fall_further, falls_from_some, same_self, tests_less, tests_not_less, not_same_above}
+use Rattle.sd_index.proofs.FallLaws.{above, head_below, tail_falls, fall_further, falls_from_some, same_self, tests_less, tests_not_less, not_same_above}
 use Rattle.sd_sieve.specs.Users.{last_accepting, is_after, StandsIn}
 
 -- all that accepted before an entry have lesser numbers
@@ -30,13 +30,6 @@ newer_step : (b same rest : Bool) (m n : ℕ) (earlier : Option ℕ) → same �
 newer_step true same rest m n earlier is lt h = sym (tests_not_less m n (omega arith))
 newer_step false true rest m n earlier is lt h = cc
 newer_step false false rest m n earlier is lt h = h
-
-above : (xs : List Entry) (e : Entry) (past : List Entry) (n : ℕ) → numbers_fall n (xs ++ e ∷ past) ≡ true → e.number < n
-above [] e past n h = head_below n e past h
-above (x ∷ xs) e past n h =
-    let lt : x.number < n = head_below n x (xs ++ e ∷ past) h in
-    let near : e.number < x.number = above xs e past x.number (tail_falls n x (xs ++ e ∷ past) h) in
-    omega arith
 
 since_at : (xs : List Entry) (e : Entry) (past : List Entry) (n : ℕ) (user : List ℕ) → numbers_fall n (xs ++ e ∷ past) ≡ true
     → is_since_accepted (xs ++ e ∷ past) user e.number ≡ is_after e.number (last_accepting (xs ++ e ∷ past) user)
