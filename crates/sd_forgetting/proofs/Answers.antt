@@ -1,9 +1,7 @@
 -- The newest answer of each key is the same in a part that keeps it, and its leading entry with it.
-use Rattle.std.proofs.Common.{◌≡◌, ℕ, Bool, true, false, List, [], ◌∷◌, arith, refl, sym, ap, subst, ◌∙◌, inl, inr}
-use Rattle.std.specs.Prelude.{Option, Some, None, ◌⊎◌, ◌==◌, ◌&&◌, ◌||◌, if◌then◌else◌}
+use Rattle.std.proofs.Common.{◌≡◌, ℕ, Bool, true, false, List, [], ◌∷◌, refl, sym, ap, subst, ◌∙◌, inl, inr}
+use Rattle.std.specs.Prelude.{Option, Some, None, ◌⊎◌, ◌||◌, if◌then◌else◌}
 use Rattle.std.specs.List.{list_any}
-use Rattle.std.proofs.lemmas.Bool.Decides.{nat_tests}
-use Rattle.std.specs.Cmp.Lexicographic.{bytes_decides}
 use Rattle.sd_rules.specs.declared.keys.Key.{Key}
 use Rattle.sd_rules.specs.declared.keys.Key.TheVariants as keys
 use Rattle.sd_rules.specs.declared.records.Answered.{Answered}
@@ -14,45 +12,16 @@ use Rattle.sd_rules.specs.declared.events.Event.{Event}
 use Rattle.sd_rules.specs.declared.events.Event.TheVariants as events
 use Rattle.sd_rules.specs.declared.events.Row.TheVariants as rows
 use Rattle.sd_rules.specs.declared.replies.Entry.{Entry}
-use Rattle.sd_rules.specs.Keys.{same_key, same_name, record_speaks, speaks_of}
+use Rattle.sd_rules.specs.Keys.{same_key, record_speaks, speaks_of}
 use Rattle.sd_rules.specs.Past.{Standing, or_else, is_closed, key_of, answer_under, answer_by, answer_in, spoken, newest}
 use Rattle.sd_rules.specs.Steps.{is_again}
 use Rattle.sd_rules.specs.Needed.{keys_of_record, keys_of_answer, is_number_of, is_newest_of, is_newest_of_some, is_newest_answer, read_with}
+pub use Rattle.sd_rules.proofs.SameKeys.{name_is, name_same}
+use Rattle.sd_rules.proofs.SameKeys.{same_key_is}
 use Rattle.sd_forgetting.specs.Parts.{part, entry_at, IsAt, numbers_fall}
 use Rattle.sd_forgetting.proofs.Tests.{not_true, none_is_not, same_some, or_left, or_right, either, same_number}
 use Rattle.sd_forgetting.proofs.Places.{entry_kept, key_kept, key_or_none, at_through, numbers_before, one_of_number}
 use Rattle.sd_forgetting.proofs.Firsts.{first_kept}
-
-pub name_is : (a b : List ℕ) → same_name a b ≡ true → a ≡ b
-name_is a b h = (bytes_decides a b).0 h
-
-pub name_same : (a : List ℕ) → same_name a a ≡ true
-name_same a = (bytes_decides a a).1 refl
-
-number_is : (a b : ℕ) → (a == b) && true ≡ true → a ≡ b
-number_is a b h = grind (arith, nat_tests)
-
-same_key_is : (a b : Key) → same_key a b ≡ true → a ≡ b
-same_key_is (keys.User a) (keys.User b) h = ap keys.User (name_is a b h)
-same_key_is (keys.Uid a) (keys.Uid b) h = ap keys.Uid (number_is a b h)
-same_key_is (keys.Group a) (keys.Group b) h = ap keys.Group (name_is a b h)
-same_key_is (keys.Gid a) (keys.Gid b) h = ap keys.Gid (number_is a b h)
-same_key_is (keys.GroupsOf a) (keys.GroupsOf b) h = ap keys.GroupsOf (name_is a b h)
-same_key_is keys.Host keys.Host h = refl
-same_key_is keys.Rules keys.Rules h = refl
-same_key_is _ _ h = cc
-
-number_same : (a : ℕ) → ((a == a) && true) ≡ true
-number_same a = grind (arith, nat_tests)
-
-pub same_key_same : (a : Key) → same_key a a ≡ true
-same_key_same (keys.User a) = name_same a
-same_key_same (keys.Uid a) = number_same a
-same_key_same (keys.Group a) = name_same a
-same_key_same (keys.Gid a) = number_same a
-same_key_same (keys.GroupsOf a) = name_same a
-same_key_same keys.Host = refl
-same_key_same keys.Rules = refl
 
 -- an answer that speaks of a key counts it among its keys
 counted : (P : Key → Bool) (a k : Key) → same_key a k ≡ true → P k ≡ true → P a ≡ true

@@ -16,7 +16,7 @@ use Rattle.sd_rules.specs.Needed.{is_since_accepted, is_wrong_needed, user_guess
 use Rattle.sd_forgetting.specs.Parts.{part, IsAt, numbers_fall}
 use Rattle.sd_forgetting.proofs.Tests.{not_true, both, or_left, or_false, first_holds, second_holds, cases, clash, is_false, if_true, if_false, same_number, is_less, differ_above, equal_numbers}
 use Rattle.sd_forgetting.proofs.Places.{part_law, keeps_if, user_or_none, numbers_below}
-use Rattle.sd_forgetting.proofs.Answers.{name_is}
+use Rattle.sd_rules.proofs.SameKeys.{name_is}
 
 attempt_too : (x y : Option (List ℕ)) (user : List ℕ) → (x ≡ y) ⊎ (x ≡ None) → is_name x user ≡ true → is_name y user ≡ true
 attempt_too x y user (inl e) h = sym (ap (λ (o : Option (List ℕ)). is_name o user) e) ∙ h

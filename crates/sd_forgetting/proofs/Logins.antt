@@ -14,7 +14,7 @@ use Rattle.sd_rules.specs.Needed.{read_with, user_if_right, user_of_row, user_lo
 use Rattle.sd_forgetting.specs.Parts.{part, entry_at, IsAt, numbers_fall}
 use Rattle.sd_forgetting.proofs.Tests.{not_true, none_is_not, same_some, or_left, or_right, same_number}
 use Rattle.sd_forgetting.proofs.Places.{entry_kept, user_kept, user_or_none, at_through, numbers_before}
-use Rattle.sd_forgetting.proofs.Answers.{name_is}
+use Rattle.sd_rules.proofs.SameKeys.{name_is}
 use Rattle.sd_forgetting.proofs.Firsts.{first_kept, first_entry_same}
 
 pub earlier_is_else : (x y : Option Login) → or_earlier x y ≡ or_else x y

@@ -14,7 +14,7 @@ use Rattle.sd_rules.specs.Needed.{last_where, is_last_where, is_number, same_wha
 use Rattle.sd_forgetting.specs.Parts.{part, IsAt, numbers_fall}
 use Rattle.sd_forgetting.proofs.Tests.{not_true, none_is_not, same_some, both, second_holds, cases, clash, if_true, if_false, same_number}
 use Rattle.sd_forgetting.proofs.Places.{numbers_below}
-use Rattle.sd_forgetting.proofs.Answers.{name_is, name_same}
+use Rattle.sd_rules.proofs.SameKeys.{name_is, name_same}
 use Rattle.sd_forgetting.proofs.Firsts.{first_kept}
 
 -- where the last entry that meets a test stands

@@ -20,7 +20,8 @@ use Rattle.sd_forgetting.specs.Orderly.{is_below, leads_or_other, are_leads, nam
 use Rattle.sd_forgetting.proofs.Tests.{not_true, none_is_not, same_some, both, or_left, or_right, second_holds, cases, clash, is_false, if_true, if_false, equal_numbers, is_equal, less, differ_above}
 use Rattle.sd_forgetting.proofs.Places.{found_at, at_is_entry, one_of_number, numbers_below}
 use Rattle.sd_forgetting.proofs.Opens.{opened_some, unclosed_at, closed_by}
-use Rattle.sd_forgetting.proofs.Answers.{same_key_same, newest_at}
+use Rattle.sd_rules.proofs.SameKeys.{same_key_same}
+use Rattle.sd_forgetting.proofs.Answers.{newest_at}
 use Rattle.sd_forgetting.proofs.Quiet.{closes_named, reader_named}
 use Rattle.sd_forgetting.proofs.Whys.{fits_at, about_below}
 use Rattle.sd_forgetting.proofs.Steps.{outcome_kind}

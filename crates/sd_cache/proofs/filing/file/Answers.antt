@@ -2,7 +2,8 @@ use Rattle.std.proofs.Common.{Bool, cond, Option, Some, ◌∙◌, ap, sym}
 use Rattle.std.specs.Map.{lookup}
 use Rattle.sd_rules.specs.Keys.{same_key}
 use Rattle.sd_cache.specs.declared.kept.Newest.{Newest}
-use Rattle.sd_cache.proofs.Same.{keys_equal, keys_equal_is, look_up_is}
+use Rattle.sd_rules.proofs.SameKeys.{keys_equal, keys_equal_is}
+use Rattle.sd_cache.proofs.Same.{look_up_is}
 use Rattle.sd_cache.proofs.Puts.{of_ok}
 use Rattle.sd_cache.proofs.filing.file.Goals as goal
 

@@ -7,7 +7,8 @@ use Rattle.sd_rules.specs.Keys.{same_key}
 use Rattle.sd_table.specs.Table as table
 use Rattle.sd_table.specs.Kept.{keys_equal, seen_tickets}
 use Rattle.sd_table.proofs.Numbered.{at_number-map}
-use Rattle.sd_table.proofs.KeysApart.{keys_equal_is, open_for-remove_entry}
+use Rattle.sd_rules.proofs.SameKeys.{keys_equal_is}
+use Rattle.sd_table.proofs.KeysApart.{open_for-remove_entry}
 use Rattle.sd_table.proofs.Keeping.{kept_close, seen_close, some_key, table_of}
 use Rattle.sd_table.proofs.requests.Requests.close.Goals as goal
 

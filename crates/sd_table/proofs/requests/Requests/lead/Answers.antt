@@ -6,7 +6,8 @@ use Rattle.sd_rules.specs.Keys.{same_key}
 use Rattle.sd_table.specs.Table as table
 use Rattle.sd_table.specs.Kept.{keys_equal, seen_tickets}
 use Rattle.sd_table.proofs.Numbered.{at_number-insert_entry}
-use Rattle.sd_table.proofs.KeysApart.{keys_equal_is, open_for-insert_entry}
+use Rattle.sd_rules.proofs.SameKeys.{keys_equal_is}
+use Rattle.sd_table.proofs.KeysApart.{open_for-insert_entry}
 use Rattle.sd_table.proofs.Keeping.{kept_lead, new_request, new_waited, table_of}
 use Rattle.sd_table.proofs.requests.Requests.lead.Goals as goal
 
