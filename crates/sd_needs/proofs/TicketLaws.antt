@@ -1,5 +1,6 @@
 -- Whether tickets that wait look at an entry can be asked of the entries that joined alone.
 use Rattle.std.proofs.Common.{◌≡◌, refl, ℕ, Bool, true, false, ◌&&◌, List, [], ◌∷◌, arith}
+use Rattle.std.proofs.lemmas.Bool.{or_left, or_right}
 use Rattle.std.specs.Prelude.{◌||◌, ◌==◌, Option, Some, None, is_some, if◌then◌else◌}
 use Rattle.std.proofs.lemmas.Bool.Decides.{nat_tests}
 use Rattle.sd_rules.specs.declared.replies.Entry.{Entry}
@@ -7,14 +8,6 @@ use Rattle.sd_rules.specs.Requests.{ends_waiting, joined, waits_for}
 use Rattle.sd_rules.specs.KeptRows.{is_join}
 use Rattle.sd_rules.specs.Needed.{serves_ticket, serves_waiting}
 use Rattle.sd_needs.specs.Looks.{serves_joined}
-
-or_left : (a b : Bool) → a ≡ true → (a || b) ≡ true
-or_left true b h = refl
-or_left false b h = cc
-
-or_right : (a b : Bool) → b ≡ true → (a || b) ≡ true
-or_right true b h = refl
-or_right false b h = h
 
 either : (a b c : Bool) → (a || b) ≡ true → (a ≡ true → c ≡ true) → (b ≡ true → c ≡ true) → c ≡ true
 either true b c h f g = f refl

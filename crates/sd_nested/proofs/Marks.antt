@@ -1,6 +1,6 @@
 -- New DNs, each once.
 use Rattle.std.proofs.Common.{◌≡◌, ℕ, Bool, true, false, not, ◌&&◌, ◌||◌, List, [], ◌∷◌, ◌++◌, Option, Some, None, refl, sym, ap, ◌∙◌, subst, cond, inl, inr, ◌⊎◌, append_assoc}
-use Rattle.std.proofs.lemmas.Bool.{and_parts}
+use Rattle.std.proofs.lemmas.Bool.{or_left, or_right, and_parts}
 use Rattle.std.proofs.lemmas.List.Folds.{list_any-append}
 use Rattle.std.specs.List.{list_any}
 use Rattle.sd_dn.specs.declared.Pair.{Pair}
@@ -19,14 +19,6 @@ admitted admits (Some dn) = admits dn
 abbrev pub met_by : Option (List (List Pair)) → List (List (List Pair)) → Bool
 met_by None seen = false
 met_by (Some dn) seen = list_any (same_dn dn) seen
-
-or_left : (a b : Bool) → a ≡ true → (a || b) ≡ true
-or_left true b h = refl
-or_left false b h = cc
-
-or_right : (a b : Bool) → b ≡ true → (a || b) ≡ true
-or_right true b h = refl
-or_right false b h = h
 
 pub met_left : (o : Option (List (List Pair))) (xs ys : List (List (List Pair))) → met_by o xs ≡ true → met_by o (xs ++ ys) ≡ true
 met_left None xs ys h = h
