@@ -119,7 +119,7 @@ ending_gives_back e past n r h w d f g j =
     second_way false w h = h
 
 -- an entry of a number and a moment
-abbrev entry_of : ℕ → ℕ → Event → Reply → Entry
+abbrev pub entry_of : ℕ → ℕ → Event → Reply → Entry
 entry_of number moment event reply = record { number = number; moment = moment; event = event; reply = reply }
 
 chosen : (b : Bool) (x y : Reply) → b ≡ true → (if b then x else y) ≡ x
@@ -130,7 +130,7 @@ both_true : (a b : Bool) → a ≡ true → b ≡ true → (a && b) ≡ true
 both_true a b f g = cc
 
 -- the places after an entry of this reply
-abbrev places_after : ℕ → ℕ → Event → List Entry → Reply → ℕ
+abbrev pub places_after : ℕ → ℕ → Event → List Entry → Reply → ℕ
 places_after number moment event past reply = reserved_places (entry_of number moment event reply ∷ past)
 
 abandon_back : (s : Settings) (past : List Entry) (number moment n : ℕ) → falls_from number past ≡ true → is_open past n ≡ true →
@@ -174,7 +174,7 @@ collect_back s past number moment n h t =
     (ending_gives_back (entry_of number moment (events.Collect n) reply) past n took.0 h took.1.0 (both_true (n == n) true (same_number n) refl) refl refl refl)
 
 -- a step that gives back a place leaves one less
-step_back : (s : Settings) (past : List Entry) (number moment : ℕ) (event : Event) → falls_from number past ≡ true → gives_back past event ≡ true →
+pub step_back : (s : Settings) (past : List Entry) (number moment : ℕ) (event : Event) → falls_from number past ≡ true → gives_back past event ≡ true →
     places_after number moment event past (reply_to s past number moment event) + 1 ≤ reserved_places past
 step_back s past number moment (events.Abandon n) h g = abandon_back s past number moment n h g
 step_back s past number moment (events.Leave n) h g = leave_back s past number moment n h g

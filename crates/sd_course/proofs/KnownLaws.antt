@@ -1,25 +1,18 @@
 -- What the clients of a scenario have in the journal stays there, and each step adds what it gives them.
-use Rattle.std.proofs.Common.{◌≡◌, ◌∙◌, ◌<◌, ℕ, zero, suc, Bool, true, false, ◌&&◌, ◌||◌, ◌==◌, ◌++◌, cond, not, List, [], ◌∷◌, Option, Some, None, refl, ap, sym, subst, arith}
-use Rattle.std.specs.Prelude.{slice_set, get_or, nat_lt, length}
-use Rattle.std.proofs.lemmas.Grind.{common_steps}
+use Rattle.std.proofs.Common.{◌≡◌, ◌<◌, ℕ, Bool, true, false, ◌&&◌, ◌==◌, cond, List, [], ◌∷◌, Option, Some, refl, sym, subst, arith}
+use Rattle.std.specs.Prelude.{nat_lt}
 use Rattle.std.proofs.lemmas.Bool.Decides.{nat_tests}
 use Rattle.sd_rules.specs.declared.keys.Key.{Key}
-use Rattle.sd_rules.specs.declared.keys.Key.TheVariants as keys
-use Rattle.sd_rules.specs.declared.records.Record.{Record}
-use Rattle.sd_rules.specs.declared.records.Answered.{Answered}
 use Rattle.sd_rules.specs.declared.events.Event.{Event}
-use Rattle.sd_rules.specs.declared.events.Event.TheVariants as events
 use Rattle.sd_rules.specs.declared.replies.Entry.{Entry}
-use Rattle.sd_rules.specs.declared.replies.Given.{Given}
-use Rattle.sd_rules.specs.declared.replies.Reply.{Reply}
-use Rattle.sd_rules.specs.declared.replies.Reply.TheVariants as replies
 use Rattle.sd_rules.specs.declared.scripts.Led.{Led}
 use Rattle.sd_rules.specs.Past.{key_of, key_asked}
 use Rattle.sd_rules.specs.Steps.{Daemon, after, entry_made}
 use Rattle.sd_core.specs.Laws.{IsKept}
 use Rattle.sd_core.specs.Sound.{falls_from}
+use Rattle.sd_core.proofs.NamesLaws.{named_on}
 use Rattle.sd_course.specs.Courses.{Course}
-use Rattle.sd_course.specs.Names.{AreAsked, IsKnown, KeepsKeys, names}
+use Rattle.sd_course.specs.Names.{IsAsked, AreAsked, IsKnown, KeepsKeys, names}
 
 -- ---- a journal that grows
 
@@ -71,8 +64,7 @@ made_keeps d e now event is kept = subst (λ (x : Daemon). KeepsKeys d.past x.pa
 -- ---- what is asked for stays asked for
 
 pub asked_on : (p q : List Entry) (led : List Led) → KeepsKeys p q → AreAsked p led → AreAsked q led
-asked_on p q [] keeps h = tt
-asked_on p q (l ∷ led) keeps h = (keeps.keeps l.request l.key h.0, asked_on p q led keeps h.1)
+asked_on p q led keeps h = named_on (IsAsked p) (IsAsked q) keeps.keeps led h
 
 pub known_on : (p q : List Entry) (c : Course) → KeepsKeys p q → IsKnown p c → IsKnown q c
 known_on p q c keeps h = record { asked = asked_on p q (names c) keeps h.asked; order = h.order }

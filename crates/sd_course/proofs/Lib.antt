@@ -1,3 +1,4 @@
 pub mod KnownLaws
+pub mod CourseLaws
 pub mod ReplyLaws
 mod TaskLaws

@@ -1,16 +1,12 @@
 -- The requests of clients, as far as they have come: lookups, logins, account checks and an administrator's words.
-use Rattle.std.specs.Prelude.{ℕ, Bool, true, false, List, [], Option, Some, None}
+use Rattle.std.specs.Prelude.{ℕ, Bool, List}
 use Rattle.sd_rules.specs.declared.keys.Key.{Key}
-use Rattle.sd_rules.specs.declared.keys.Key.TheVariants as keys
 use Rattle.sd_rules.specs.declared.events.Event.{Event}
-use Rattle.sd_rules.specs.declared.events.Event.TheVariants as events
 use Rattle.sd_rules.specs.declared.replies.Given.{Given}
 use Rattle.sd_rules.specs.declared.scripts.LookupCourse.{LookupCourse}
-use Rattle.sd_rules.specs.declared.settings.AccessMode.{AccessMode}
 use Rattle.sd_rules.specs.declared.tasks.Bound.{Bound}
 use Rattle.sd_rules.specs.declared.tasks.Fetched.{Fetched}
 use Rattle.sd_rules.specs.declared.tasks.Need.{Need}
-use Rattle.sd_rules.specs.declared.tasks.Need.TheVariants as needs
 use Rattle.sd_rules.specs.AccessScript.{AccessWords, AccessCourse, access_told, access_replied, access_fetched, access_begun}
 use Rattle.sd_rules.specs.LoginScript.{LoginCourse, login_course_told, login_course_replied, login_course_fetched, login_course_bound, login_begun}
 use Rattle.sd_rules.specs.LoginScript as logins
@@ -90,12 +86,6 @@ bound seed (LoggingIn words course) answer = LoggingIn words (login_course_bound
 bound seed (LookingUp key course) answer = LookingUp key course
 bound seed (Checking words course) answer = Checking words course
 bound seed (Ordering course) answer = Ordering course
-
--- the event that a need makes: its own, or the collecting of its ticket
-abbrev pub event_of : Need → Option Event
-event_of (needs.Step event) = Some event
-event_of (needs.Await ticket) = Some (events.Collect ticket)
-event_of _ = None
 
 -- ---- the tasks of the code
 

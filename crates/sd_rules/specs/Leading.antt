@@ -3,7 +3,7 @@ use Rattle.std.specs.Prelude.{ℕ, ◌==◌, ◌+◌, ◌++◌, nat_lt, remove, 
 use Rattle.sd_rules.specs.declared.events.Event.{Event}
 use Rattle.sd_rules.specs.declared.events.Event.TheVariants.{Pick, Fall, Answer, Refuse, Outage, Abandon, LoginOnline, LoginTry}
 use Rattle.sd_rules.specs.declared.replies.Reply.{Reply}
-use Rattle.sd_rules.specs.declared.replies.Reply.TheVariants.{Lead, Refresh, Bind, Cached}
+use Rattle.sd_rules.specs.declared.replies.Reply.TheVariants.{Lead, Refresh, Join, Bind, Cached, Took, NoTicket}
 
 -- the request or attempt that an event is about
 abbrev pub about : Event → Option ℕ
@@ -39,3 +39,10 @@ without ms (Some n) = without_place ms (place_in ms n)
 abbrev pub with_one : List ℕ → Option ℕ → List ℕ
 with_one ms None = ms
 with_one ms (Some n) = ms ++ n ∷ []
+
+-- the ticket that is waited with after a reply
+abbrev pub ticket_after : Option ℕ → Reply → Option ℕ
+ticket_after waiting (Join request ticket) = Some ticket
+ticket_after waiting (Took outcome) = None
+ticket_after waiting NoTicket = None
+ticket_after waiting _ = waiting

@@ -14,6 +14,7 @@ pub mod Closings
 pub mod LoginScript
 pub mod AccessScript
 pub mod Scripts
+pub mod Names
 pub mod Legal
 pub mod Needed
 pub mod Reaching

@@ -64,6 +64,12 @@ need_at (Login words course) = login_course_need words course
 need_at (Access words course) = access_need words course
 need_at (Admin course) = admin_need course
 
+-- the event that a need makes: its own, or the collecting of its ticket
+abbrev pub event_of : Need → Option Event
+event_of (needs.Step event) = Some event
+event_of (needs.Await ticket) = Some (events.Collect ticket)
+event_of _ = None
+
 -- the script once its need is known: what was to be told is told
 abbrev pub told_at : Script → Script
 told_at (Lookup key course) = Lookup key (course_told course)

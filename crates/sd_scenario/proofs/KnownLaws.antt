@@ -1,5 +1,5 @@
 -- What the clients of a scenario have in the journal stays there, and each step adds what it gives them.
-use Rattle.std.proofs.Common.{◌≡◌, ◌∙◌, ◌<◌, ◌+◌, ℕ, zero, suc, Bool, true, false, ◌&&◌, ◌||◌, ◌==◌, ◌++◌, cond, not, List, [], ◌∷◌, Option, Some, None, refl, ap, sym, subst, arith}
+use Rattle.std.proofs.Common.{◌≡◌, ◌∙◌, ◌<◌, ◌+◌, ℕ, zero, suc, Bool, true, false, ◌||◌, ◌==◌, ◌++◌, cond, List, [], ◌∷◌, Option, Some, None, refl, ap, sym, subst, arith}
 use Rattle.std.specs.Prelude.{slice_set, get_or, length, max}
 use Rattle.std.proofs.lemmas.Bool.Decides.{nat_tests}
 use Rattle.sd_rules.specs.declared.keys.Key.{Key}
@@ -11,6 +11,7 @@ use Rattle.sd_rules.specs.Requests.{closes, ends_waiting, has_opened_attempt, ha
 use Rattle.sd_rules.specs.Steps.{Daemon, after, entry_made, next_number, number_after}
 use Rattle.sd_forgetting.specs.Kept.{Keeps}
 use Rattle.sd_forgetting.specs.Parts.{entry_at}
+use Rattle.sd_core.proofs.NamesLaws.{named_on}
 use Rattle.sd_scenario.specs.Clients.{Client, begun}
 use Rattle.sd_scenario.specs.Courses.{Course}
 use Rattle.sd_scenario.specs.Past.{IsAsked, AreAsked, IsKnown, EachKnown, AreKnown, KeepsKeys, names}
@@ -104,8 +105,7 @@ forget_keeps d f k = record { keeps = λ n key h. kept_asked d f n key k h }
 -- ---- what is asked for stays asked for
 
 pub asked_on : (p q : Daemon) (led : List Led) → KeepsKeys p q → AreAsked p led → AreAsked q led
-asked_on p q [] keeps h = tt
-asked_on p q (l ∷ led) keeps h = (keeps.keeps l.request l.key h.0, asked_on p q led keeps h.1)
+asked_on p q led keeps h = named_on (IsAsked p) (IsAsked q) keeps.keeps led h
 
 pub known_on : (p q : Daemon) (c : Course) → KeepsKeys p q → IsKnown p c → IsKnown q c
 known_on p q c keeps h = record { asked = asked_on p q (names c) keeps h.asked }

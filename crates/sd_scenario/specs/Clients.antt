@@ -1,19 +1,17 @@
 -- The clients of a scenario: a task of each, and what its entries left open.
-use Rattle.std.specs.Prelude.{ℕ, Bool, true, false, ◌||◌, ◌==◌, ◌+◌, ◌++◌, nat_lt, remove, length, List, [], ◌∷◌, Option, Some, None, if◌then◌else◌}
-use Rattle.sd_rules.specs.declared.events.Event.{Event}
-use Rattle.sd_rules.specs.declared.events.Event.TheVariants.{Pick, Fall, Answer, Refuse, Outage, Abandon, LoginOnline, LoginTry}
+use Rattle.std.specs.Prelude.{ℕ, Bool, true, false, ◌||◌, List, [], Option, None, if◌then◌else◌}
 use Rattle.sd_rules.specs.declared.replies.Given.{Given}
 use Rattle.sd_rules.specs.declared.replies.Reply.{Reply}
-use Rattle.sd_rules.specs.declared.replies.Reply.TheVariants.{Lead, Refresh, Join, Bind, Cached, Closed, Shut, Tried, Took, NoTicket}
+use Rattle.sd_rules.specs.declared.replies.Reply.TheVariants.{Closed, Shut, Tried}
 use Rattle.sd_rules.specs.declared.replies.Verdict.TheVariants.{Accepted}
 use Rattle.sd_rules.specs.declared.tasks.Bound.{Bound}
 use Rattle.sd_rules.specs.declared.tasks.Fetched.{Fetched}
 use Rattle.sd_rules.specs.declared.tasks.Need.{Need}
 use Rattle.sd_rules.specs.declared.tasks.Need.TheVariants as needs
+pub use Rattle.sd_rules.specs.Leading.{about, opened, place_in, without_place, without, with_one, ticket_after}
 use Rattle.sd_rules.specs.Scripts.{need_at, awaits_reply, is_saying}
 use Rattle.sd_scenario.specs.Courses.{Course, script_of}
 use Rattle.sd_scenario.specs.Courses as courses
-use Rattle.sd_rules.specs.Leading as led
 
 -- A client: its task as far as it has come; the requests and attempts that it leads, in the order in which they were led; the
 -- ticket that it waits with; whether its answer was printed; whether it has ended.
@@ -32,14 +30,6 @@ begun task = record { task = task; leads = []; ticket = None; is_told = false; i
 abbrev pub need_of : Client → Need
 need_of c = need_at (script_of c.task)
 
--- the request or attempt that an event is about
-abbrev pub about : Event → Option ℕ
-about e = led.about e
-
--- the request or attempt that a reply says its client leads
-abbrev pub opened : Reply → Option ℕ
-opened reply = led.opened reply
-
 -- a reply that closes the request or attempt of its event
 abbrev pub is_closing : Reply → Bool
 is_closing Closed = true
@@ -47,28 +37,9 @@ is_closing (Shut outcome) = true
 is_closing (Tried Accepted) = true
 is_closing _ = false
 
-abbrev pub place_in : List ℕ → ℕ → ℕ
-place_in ms n = led.place_in ms n
-
-abbrev pub without_place : List ℕ → ℕ → List ℕ
-without_place ms place = led.without_place ms place
-
-abbrev pub without : List ℕ → Option ℕ → List ℕ
-without ms n = led.without ms n
-
-abbrev pub with_one : List ℕ → Option ℕ → List ℕ
-with_one ms n = led.with_one ms n
-
 -- what a client leads after a reply to its event about the number n
 abbrev pub leads_after : List ℕ → Option ℕ → Reply → List ℕ
 leads_after leads n reply = if is_closing reply then without leads n else with_one leads (opened reply)
-
--- the ticket that a client waits with after a reply
-abbrev pub ticket_after : Option ℕ → Reply → Option ℕ
-ticket_after waiting (Join request ticket) = Some ticket
-ticket_after waiting (Took outcome) = None
-ticket_after waiting NoTicket = None
-ticket_after waiting _ = waiting
 
 -- a client after the reply to its event about the number n
 abbrev pub replied : Client → Option ℕ → Given → Client

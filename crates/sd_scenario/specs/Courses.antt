@@ -1,22 +1,17 @@
 -- The tasks of a scenario's clients, as far as they have come: lookups, logins and account checks.
-use Rattle.std.specs.Prelude.{ℕ, Bool, replicate, List, [], ◌∷◌, Option, Some, None}
+use Rattle.std.specs.Prelude.{ℕ, Bool, replicate, List}
 use Rattle.sd_rules.specs.declared.keys.Key.{Key}
-use Rattle.sd_rules.specs.declared.keys.Key.TheVariants as keys
-use Rattle.sd_rules.specs.declared.events.Event.{Event}
-use Rattle.sd_rules.specs.declared.events.Event.TheVariants as events
 use Rattle.sd_rules.specs.declared.replies.Given.{Given}
 use Rattle.sd_rules.specs.declared.scripts.LookupCourse.{LookupCourse}
-use Rattle.sd_rules.specs.declared.settings.AccessMode.{AccessMode}
 use Rattle.sd_rules.specs.declared.tasks.Bound.{Bound}
 use Rattle.sd_rules.specs.declared.tasks.Fetched.{Fetched}
-use Rattle.sd_rules.specs.declared.tasks.Need.{Need}
-use Rattle.sd_rules.specs.declared.tasks.Need.TheVariants as needs
 use Rattle.sd_rules.specs.AccessScript.{AccessWords, AccessCourse, access_told, access_replied, access_fetched, access_begun}
 use Rattle.sd_rules.specs.LoginScript.{LoginCourse, login_course_told, login_course_replied, login_course_fetched, login_course_bound, login_begun}
 use Rattle.sd_rules.specs.LoginScript as logins
 use Rattle.sd_rules.specs.Lookups.{course_told, course_replied, course_fetched}
 use Rattle.sd_rules.specs.Lookups as lookups
 use Rattle.sd_rules.specs.Scripts.{Script, Lookup, Login, Access}
+pub use Rattle.sd_rules.specs.Scripts.{event_of}
 use Rattle.sd_pam.specs.Checks as seen_checks
 use Rattle.sd_pam.specs.Logins as seen_logins
 use Rattle.sd_pam.specs.Logins.{hashing}
@@ -81,12 +76,6 @@ fetched (Checking words course) answer = Checking words (access_fetched course a
 abbrev pub bound : Course → Bound → Course
 bound (LoggingIn words course) answer = LoggingIn words (login_course_bound (with_hashing words) course answer)
 bound course answer = course
-
--- the event that a need makes: its own, or the collecting of its ticket
-abbrev pub event_of : Need → Option Event
-event_of (needs.Step event) = Some event
-event_of (needs.Await ticket) = Some (events.Collect ticket)
-event_of _ = None
 
 -- ---- the tasks of the code
 

@@ -2,10 +2,11 @@
 use Rattle.std.proofs.Common.{refl}
 use Rattle.sd_rules.specs.declared.settings.Settings.{Settings}
 use Rattle.sd_rules.specs.Steps.{Daemon}
+use Rattle.sd_course.proofs.CourseLaws.{login_names_nothing}
 use Rattle.sd_wire.specs.declared.requests.Request.{Request}
 use Rattle.sd_wire.specs.declared.requests.Request.TheVariants as requests
 use Rattle.sd_session.specs.Spoken.{IsSpoken}
-use Rattle.sd_session.proofs.SpokenLaws.{begun_known, login_names_nothing}
+use Rattle.sd_session.proofs.SpokenLaws.{begun_known}
 use Rattle.sd_engine.specs.Engines.{course_of}
 
 pub begun_is_spoken : (d : Daemon) (settings : Settings) (request : Request) → IsSpoken d (course_of settings request)

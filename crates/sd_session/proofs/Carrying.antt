@@ -1,12 +1,13 @@
 -- A step that the engine named, and what it is told of it.
-use Rattle.std.proofs.Common.{◌≡◌, ◌∙◌, ℕ, true, List, [], ◌∷◌, Option, Some, None, refl, sym, subst}
+use Rattle.std.proofs.Common.{◌≡◌, ◌∙◌, ℕ, true, List, ◌∷◌, Option, Some, None, refl, sym, subst}
 use Rattle.std.specs.Prelude.{IfSome}
 use Rattle.sd_rules.specs.declared.events.Event.{Event}
 use Rattle.sd_rules.specs.declared.replies.Given.{Given}
-use Rattle.sd_rules.specs.declared.scripts.Led.{Led}
 use Rattle.sd_rules.specs.Reaching.{Reaches}
 use Rattle.sd_rules.specs.Scripts.{awaits_reply, fits_found, key_at}
 use Rattle.sd_rules.specs.Steps.{Daemon, after, is_steppable}
+use Rattle.sd_core.proofs.EventLaws.{event_awaits}
+use Rattle.sd_core.proofs.NamesLaws.{named_on}
 use Rattle.sd_conf.specs.declared.config.Config.{Config}
 use Rattle.sd_course.specs.Courses.{Client, Course, need_of, script_at, client_replied}
 use Rattle.sd_course.specs.Names.{names}
@@ -16,10 +17,10 @@ use Rattle.sd_engine.specs.declared.ending.SessionEnd.{SessionEnd}
 use Rattle.sd_engine.specs.declared.ending.SessionEnd.TheVariants as ends
 use Rattle.sd_engine.specs.Engines.{Engine, replied}
 use Rattle.sd_session.specs.Sessions.{Company, Trace, Finds, Refuses, stand_after}
-use Rattle.sd_session.specs.Spoken.{AllSpeak, IsSpoken, KeepsNamed}
+use Rattle.sd_session.specs.Spoken.{Spoken, IsSpoken, KeepsNamed}
 use Rattle.sd_session.specs.Running.{LeadsOn, Outside, Awaits, Stands, GoesOn, EndsIn, Turned, TellsOf, tracing}
 use Rattle.sd_session.specs.Stepping.{IsMade, IsRefused, IsWaited}
-use Rattle.sd_session.proofs.SpokenLaws.{event_awaits, known_steppable, known_after, given_fits}
+use Rattle.sd_session.proofs.SpokenLaws.{known_steppable, known_after, given_fits}
 use Rattle.sd_session.proofs.Standing.{stands_steps, stands_waits}
 use Rattle.sd_session.proofs.Ending.{ran_refused, ran_untold}
 
@@ -27,13 +28,12 @@ use Rattle.sd_session.proofs.Ending.{ran_refused, ran_untold}
 abbrev pub Far : Company → Type 0
 Far w = (d e : Daemon) → w.others d e → Reaches d e
 
-all_reached : (d e : Daemon) (led : List Led) → Reaches d e → AllSpeak d led → AllSpeak e led
-all_reached d e [] to asked = tt
-all_reached d e (l ∷ led) to asked = (speaks_reached l.request l.key d e asked.0 to, all_reached d e led to asked.1)
-
 -- what a journal says of a request's names, each that it reaches says too
 pub spoken_reached : (d e : Daemon) (c : Course) → Reaches d e → IsSpoken d c → IsSpoken e c
-spoken_reached d e c to spoken = record { asked = all_reached d e (names c) to spoken.asked; order = spoken.order }
+spoken_reached d e c to spoken = record {
+  asked = named_on (Spoken d) (Spoken e) (λ n key speaks. speaks_reached n key d e speaks to) (names c) spoken.asked;
+  order = spoken.order;
+}
 
 same_client : (o : Option Client) (a b : Client) → o ≡ Some a → o ≡ Some b → a ≡ b
 same_client o a b e f = let same : Some a ≡ Some b = sym e ∙ f in cc

@@ -9,12 +9,13 @@ use Rattle.sd_rules.specs.declared.tasks.Need.TheVariants as needs
 use Rattle.sd_rules.specs.declared.replies.Entry.{Entry}
 use Rattle.sd_rules.specs.Reaching.{Reaches}
 use Rattle.sd_rules.specs.Steps.{Daemon, entry_made, given, is_steppable}
+use Rattle.sd_rules.specs.Scripts.{event_of}
 use Rattle.sd_conf.specs.declared.config.Config.{Config}
 use Rattle.sd_dial.specs.Operations.{Operation}
 use Rattle.sd_inquiry.specs.Counting.{HasNotFallen}
 use Rattle.sd_inquiry.specs.Lookups.{with_operations}
 use Rattle.sd_inquiry.specs.Received.{with_lines}
-use Rattle.sd_course.specs.Courses.{Client, need_of, event_of, client_replied}
+use Rattle.sd_course.specs.Courses.{Client, need_of, client_replied}
 use Rattle.sd_engine.specs.declared.ending.SessionEnd.{SessionEnd}
 use Rattle.sd_engine.specs.declared.ending.SessionEnd.TheVariants as ends
 use Rattle.sd_engine.specs.Engines.{Engine, done}

@@ -28,8 +28,8 @@ use Rattle.sd_rules.specs.declared.tasks.Need.TheVariants as needs
 use Rattle.sd_rules.specs.LoginScript.{LoginWords, login_need, login_replied, after_open, after_cached, after_try, after_login_pick, after_online, after_login_fall, after_login_outage, after_look, after_hash, after_guess, after_verdict}
 use Rattle.sd_rules.specs.Lookups.{lookup_need, lookup_replied, after_ask, after_collect, after_pick, after_answer, after_refuse, after_fall, after_outage}
 use Rattle.sd_rules.specs.Requests.{joined, opens_request, opens_attempt}
+use Rattle.sd_rules.specs.Scripts.{event_of}
 use Rattle.sd_forgetting.specs.Orderly.{is_ask}
-use Rattle.sd_course.specs.Courses.{event_of}
 use Rattle.sd_engine.specs.Leading.{about, opened, is_closing}
 use Rattle.sd_session.specs.Holding.{lists, stage_leads, stage_waits, stage_attempt, is_leading}
 use Rattle.sd_session.proofs.ClosingLaws.{IsAboutRequest, IsAboutAttempt, is_taking}

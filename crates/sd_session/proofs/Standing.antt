@@ -18,6 +18,7 @@ use Rattle.sd_rules.specs.declared.tasks.Need.TheVariants as needs
 use Rattle.sd_rules.specs.declared.tasks.Said.{Said}
 use Rattle.sd_rules.specs.Reaching.{Reaches}
 use Rattle.sd_rules.specs.Steps.{Daemon, after, entry_made, given, is_steppable}
+use Rattle.sd_rules.specs.Scripts.{event_of}
 use Rattle.sd_conf.specs.declared.config.Config.{Config}
 use Rattle.sd_clock.specs.Readings.{FollowsOn}
 use Rattle.sd_dial.specs.Operations.{Operation}
@@ -27,7 +28,7 @@ use Rattle.sd_inquiry.specs.Received.{with_lines}
 use Rattle.sd_inbox.specs.Taking.{Unread}
 use Rattle.sd_wire.specs.declared.requests.Request.{Request}
 use Rattle.sd_wire.specs.Frames.{frame_of}
-use Rattle.sd_course.specs.Courses.{Client, need_of, event_of, client_told, client_replied, client_fetched, client_bound, told}
+use Rattle.sd_course.specs.Courses.{Client, need_of, client_told, client_replied, client_fetched, client_bound, told}
 use Rattle.sd_engine.specs.Engines.{Engine, client_of, heard, awaiting, done, replied}
 use Rattle.sd_course.specs.Names.{holds_order}
 use Rattle.sd_engine.specs.Leading.{about, leads_after, ticket_after}

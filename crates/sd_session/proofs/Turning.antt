@@ -7,7 +7,7 @@ use Rattle.sd_rules.specs.declared.events.Event.TheVariants as events
 use Rattle.sd_rules.specs.declared.keys.Key.{Key}
 use Rattle.sd_rules.specs.declared.tasks.Need.{Need}
 use Rattle.sd_rules.specs.declared.tasks.Need.TheVariants as needs
-use Rattle.sd_rules.specs.Scripts.{is_need_of_kind, key_at}
+use Rattle.sd_rules.specs.Scripts.{event_of, is_need_of_kind, key_at}
 use Rattle.sd_rules.specs.Steps.{Daemon}
 use Rattle.sd_conf.specs.declared.config.Config.{Config}
 use Rattle.sd_dial.specs.Entries.{Behind}
@@ -15,7 +15,7 @@ use Rattle.sd_dial.specs.Operations.{Operation}
 use Rattle.sd_inquiry.specs.Counting.{HasNotFallen}
 use Rattle.sd_inquiry.specs.Lookups.{with_operations}
 use Rattle.sd_inquiry.specs.Received.{with_lines}
-use Rattle.sd_course.specs.Courses.{Client, need_of, event_of, script_at}
+use Rattle.sd_course.specs.Courses.{Client, need_of, script_at}
 use Rattle.sd_session.specs.Sessions.{Company, Trace, stand_after}
 use Rattle.sd_session.specs.Spoken.{IsSpoken}
 use Rattle.sd_engine.specs.declared.ending.SessionEnd.{SessionEnd}

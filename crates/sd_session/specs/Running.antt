@@ -20,8 +20,8 @@ use Rattle.sd_inquiry.specs.Binds.{BindOperations}
 use Rattle.sd_inquiry.specs.Lookups.{LookupOperations, with_operations}
 use Rattle.sd_inquiry.specs.Received.{with_lines}
 use Rattle.sd_wire.specs.Frames.{IsCut, IsBad}
-use Rattle.sd_rules.specs.Scripts.{is_need_of_kind, key_at}
-use Rattle.sd_course.specs.Courses.{Client, need_of, event_of, script_at}
+use Rattle.sd_rules.specs.Scripts.{event_of, is_need_of_kind, key_at}
+use Rattle.sd_course.specs.Courses.{Client, need_of, script_at}
 use Rattle.sd_session.specs.Spoken.{IsSpoken}
 use Rattle.sd_engine.specs.declared.ending.SessionEnd.{SessionEnd}
 use Rattle.sd_engine.specs.declared.ending.SessionEnd.TheVariants as ends

@@ -12,6 +12,7 @@ use Rattle.sd_rules.specs.declared.tasks.Fetched.TheVariants as fetches
 use Rattle.sd_rules.specs.declared.tasks.Need.TheVariants as needs
 use Rattle.sd_rules.specs.declared.tasks.Said.{Said}
 use Rattle.sd_rules.specs.Steps.{Daemon, after, entry_made, given, is_full, is_steppable}
+use Rattle.sd_rules.specs.Scripts.{event_of}
 use Rattle.sd_conf.specs.declared.config.Config.{Config}
 use Rattle.sd_dial.specs.Entries.{Behind}
 use Rattle.sd_dial.specs.Operations.{Operation}
@@ -22,7 +23,7 @@ use Rattle.sd_inquiry.specs.Lookups.{LookupOperations, IsToldFetch}
 use Rattle.sd_inquiry.specs.Binds.{BindOperations}
 use Rattle.sd_wire.specs.declared.requests.Request.{Request}
 use Rattle.sd_wire.specs.Frames.{frame_of}
-use Rattle.sd_course.specs.Courses.{Client, need_of, event_of, client_told, client_replied, client_fetched, client_bound}
+use Rattle.sd_course.specs.Courses.{Client, need_of, client_told, client_replied, client_fetched, client_bound}
 use Rattle.sd_engine.specs.Answering.{reply_of}
 use Rattle.sd_engine.specs.Engines.{client_of, is_stop}
 
