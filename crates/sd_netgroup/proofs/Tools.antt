@@ -1,14 +1,16 @@
 -- Endings of the tools, by what the inputs tell.
 use Rattle.std.specs.Prelude.{IfSome}
 use Rattle.std.specs.Io.KnownBytes.{Appends}
-use Rattle.std.proofs.Common.{◌≡◌, ◌≢◌, ℕ, List, Option, Some, None, refl, sym, subst, inl, inr, arith}
+use Rattle.std.proofs.Common.{◌≡◌, ◌≢◌, ◌⊎◌, ℕ, List, Option, Some, None, refl, sym, subst, ◌∙◌, inl, inr, arith}
 use Rattle.sd_ldap.specs.declared.entry.DirEntry.{DirEntry}
 use Rattle.sd_stub.specs.Keeping.{kept}
-use Rattle.sd_tools.specs.declared.endings.TheConstants.{WRITE_FAULT}
+use Rattle.sd_tools.specs.declared.endings.TheConstants.{DONE, TOO_LONG, WRITE_FAULT}
+use Rattle.sd_inputs.specs.declared.endings.TheConstants.{REFUSED}
 use Rattle.sd_inputs.specs.declared.inputs.Inputs.{Inputs}
 use Rattle.sd_inputs.specs.declared.inputs.Stop.TheVariants as stops
 use Rattle.sd_inputs.specs.Inputs.{AreInputs, StopsAt}
 use Rattle.sd_netgroup.specs.declared.directory.Answer.{Answer}
+use Rattle.sd_netgroup.specs.declared.tool.TheConstants.{NO_NETGROUP, DIRECTORY_LIMIT}
 use Rattle.sd_netgroup.specs.declared.words.Question.{Question}
 use Rattle.sd_netgroup.specs.Endings.{IsAnswer, Tells, Ends, IsEnding, OfInputs}
 
@@ -18,7 +20,8 @@ no_cause None ldif = tt
 no_cause (Some c) None = tt
 no_cause (Some c) (Some l) = tt
 
-told_by : (conf ldif : Option (List ℕ)) (P R : List ℕ → List ℕ → Type 0) → IfSome conf (λ c. IfSome ldif (λ l. P c l)) → ((c l : List ℕ) → P c l → R c l) → IfSome conf (λ c. IfSome ldif (λ l. R c l))
+-- what follows from a fact of both texts
+pub told_by : (conf ldif : Option (List ℕ)) (P R : List ℕ → List ℕ → Type 0) → IfSome conf (λ c. IfSome ldif (λ l. P c l)) → ((c l : List ℕ) → P c l → R c l) → IfSome conf (λ c. IfSome ldif (λ l. R c l))
 told_by None ldif P R h f = tt
 told_by (Some c) None P R h f = tt
 told_by (Some c) (Some l) P R h f = f c l h
@@ -46,9 +49,13 @@ ends_told question conf ldif held held' q status result output asked h w =
     (told_by conf ldif (λ c l. Ends q c l status output) (λ c l. (x : List ℕ) × Ends q c l result x × Appends held held' x) h
     (λ c l e. (output, subst (λ (n : ℕ). Ends q c l n output) (sym w.0) e, w.1)))
 
+-- none of the statuses of an ending is that of a fault in writing, where the tool's own is not
+pub none_written : (own status : ℕ) → own ≢ WRITE_FAULT → (status ≡ DONE) ⊎ ((status ≡ own) ⊎ ((status ≡ DIRECTORY_LIMIT) ⊎ ((status ≡ TOO_LONG) ⊎ (status ≡ REFUSED)))) → status ≢ WRITE_FAULT
+none_written own status apart (inl e) = λ f. omega arith
+none_written own status apart (inr (inl e)) = λ f. apart (sym e ∙ f)
+none_written own status apart (inr (inr (inl e))) = λ f. omega arith
+none_written own status apart (inr (inr (inr (inl e)))) = λ f. omega arith
+none_written own status apart (inr (inr (inr (inr e)))) = λ f. omega arith
+
 pub not_written : (status : ℕ) → IsEnding status → status ≢ WRITE_FAULT
-not_written status (inl e) = λ f. omega arith
-not_written status (inr (inl e)) = λ f. omega arith
-not_written status (inr (inr (inl e))) = λ f. omega arith
-not_written status (inr (inr (inr (inl e)))) = λ f. omega arith
-not_written status (inr (inr (inr (inr e)))) = λ f. omega arith
+not_written status e = none_written NO_NETGROUP status (λ f. omega arith) e

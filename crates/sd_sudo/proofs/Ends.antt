@@ -1,34 +1,28 @@
 -- Endings of the tool, by what the inputs tell.
 use Rattle.std.specs.Prelude.{IfSome}
 use Rattle.std.specs.Io.KnownBytes.{Appends}
-use Rattle.std.proofs.Common.{◌≡◌, ◌≢◌, ℕ, List, Option, Some, None, Result, refl, sym, subst, inl, inr, arith}
+use Rattle.std.proofs.Common.{◌≡◌, ◌≢◌, ℕ, List, Option, Some, Result, refl, sym, subst, arith}
 use Rattle.sd_ldap.specs.declared.entry.DirEntry.{DirEntry}
 use Rattle.sd_stub.specs.Keeping.{kept}
 use Rattle.sd_tools.specs.declared.endings.TheConstants.{WRITE_FAULT}
 use Rattle.sd_inputs.specs.declared.inputs.Inputs.{Inputs}
 use Rattle.sd_inputs.specs.declared.inputs.Stop.TheVariants as stops
 use Rattle.sd_inputs.specs.Inputs.{AreInputs, StopsAt}
+use Rattle.sd_netgroup.proofs.Tools as tools
 use Rattle.sd_sudo.specs.declared.answer.Answer.{Answer}
 use Rattle.sd_sudo.specs.declared.lookups.Halt.{Halt}
+use Rattle.sd_sudo.specs.declared.tool.TheConstants.{NO_USER}
 use Rattle.sd_sudo.specs.Answering.{IsOutcome}
 use Rattle.sd_sudo.specs.Endings.{Tells, Ends, IsEnding, OfInputs}
 
--- what follows from a fact of both texts
-told_by : (conf ldif : Option (List ℕ)) (P R : List ℕ → List ℕ → Type 0) → IfSome conf (λ c. IfSome ldif (λ l. P c l)) → ((c l : List ℕ) → P c l → R c l) → IfSome conf (λ c. IfSome ldif (λ l. R c l))
-told_by None ldif P R h f = tt
-told_by (Some c) None P R h f = tt
-told_by (Some c) (Some l) P R h f = f c l h
-
 -- want of memory has no cause
 pub no_cause : (conf ldif : Option (List ℕ)) → IfSome conf (λ c. IfSome ldif (λ l. StopsAt stops.Memory c l))
-no_cause None ldif = tt
-no_cause (Some c) None = tt
-no_cause (Some c) (Some l) = tt
+no_cause conf ldif = tools.no_cause conf ldif
 
 -- what was read, and what it comes to
 pub read_ends : (conf ldif : Option (List ℕ)) (inputs : Inputs) (user : List ℕ) (status : ℕ) (output : List ℕ) → IfSome conf (λ c. IfSome ldif (λ l. AreInputs c l inputs)) → ((c l : List ℕ) → AreInputs c l inputs → Ends user c l status output)
     → IfSome conf (λ c. IfSome ldif (λ l. Ends user c l status output))
-read_ends conf ldif inputs user status output h f = told_by conf ldif (λ c l. AreInputs c l inputs) (λ c l. Ends user c l status output) h f
+read_ends conf ldif inputs user status output h f = tools.told_by conf ldif (λ c l. AreInputs c l inputs) (λ c l. Ends user c l status output) h f
 
 -- an outcome over the entries that were read
 pub tells : (conf ldif user : List ℕ) (inputs : Inputs) (read : List DirEntry) (outcome : Result Answer Halt) → read ≡ inputs.entries → IsOutcome inputs.config (kept read) user outcome → AreInputs conf ldif inputs → Tells conf ldif user outcome
@@ -44,12 +38,8 @@ pub ends_told : (asked : Option (List ℕ)) (conf ldif held held' : Option (List
     → (result ≡ status) × Appends held held' output → OfInputs asked conf ldif (λ u c l. (x : List ℕ) × Ends u c l result x × Appends held held' x)
 ends_told asked conf ldif held held' user status result output is h w =
     subst (λ (o : Option (List ℕ)). OfInputs o conf ldif (λ u c l. (x : List ℕ) × Ends u c l result x × Appends held held' x)) is
-    (told_by conf ldif (λ c l. Ends user c l status output) (λ c l. (x : List ℕ) × Ends user c l result x × Appends held held' x) h
+    (tools.told_by conf ldif (λ c l. Ends user c l status output) (λ c l. (x : List ℕ) × Ends user c l result x × Appends held held' x) h
     (λ c l e. (output, subst (λ (n : ℕ). Ends user c l n output) (sym w.0) e, w.1)))
 
 pub not_written : (status : ℕ) → IsEnding status → status ≢ WRITE_FAULT
-not_written status (inl e) = λ f. omega arith
-not_written status (inr (inl e)) = λ f. omega arith
-not_written status (inr (inr (inl e))) = λ f. omega arith
-not_written status (inr (inr (inr (inl e)))) = λ f. omega arith
-not_written status (inr (inr (inr (inr e)))) = λ f. omega arith
+not_written status e = tools.none_written NO_USER status (λ f. omega arith) e
