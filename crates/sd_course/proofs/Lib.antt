@@ -1,4 +1,2 @@
-pub mod KnownLaws
 pub mod CourseLaws
-pub mod ReplyLaws
 mod TaskLaws
