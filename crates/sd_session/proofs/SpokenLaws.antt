@@ -82,7 +82,7 @@ pub given_fits : (seed : List ℕ) (d : Daemon) (now : ℕ) (c : Course) (event 
     IsSpoken d c → IsKept d → found_fits d.past event g.found ≡ true → fits_found (key_at (script_of seed c)) g.found ≡ true
 given_fits seed d now c event g is e known kept h =
     let fits = course_law (fits_at d now (spoken_fits d now kept)) (λ _ _ _. refl) seed c event e known.asked known.order
-        (subst (λ (x : Given). found_fits d.past event x.found ≡ true) is h) in
+    (subst (λ (x : Given). found_fits d.past event x.found ≡ true) is h) in
     subst (λ (x : Given). fits_found (key_at (script_of seed c)) x.found ≡ true) (sym is) fits
 
 -- ---- the event that a task needs can be stepped
