@@ -4,5 +4,5 @@
 mod lines;
 mod runs;
 
-pub use lines::{cut_line, cut_text, cut_word, number};
+pub use lines::{cut_before, cut_line, cut_text, cut_word, number};
 pub use runs::{Failure, print, read};

@@ -24,16 +24,21 @@ pub fn cut_word(text: &[u8]) -> (&[u8], &[u8]) {
     cut_at(text, b' ')
 }
 
-/// The lines up to the next that begins with `== `, and what comes from there on.
-pub fn cut_text(text: &[u8]) -> (&[u8], &[u8]) {
+/// The lines up to the next that begins so, and what comes from there on.
+pub fn cut_before<'a>(text: &'a [u8], beginning: &[u8]) -> (&'a [u8], &'a [u8]) {
     let mut is_first = true;
     for place in 0..text.len() {
-        if is_first && text[place..].starts_with(b"== ") {
+        if is_first && text[place..].starts_with(beginning) {
             return cut(text, place, place);
         }
         is_first = text[place] == b'\n';
     }
     (text, &[])
+}
+
+/// The lines up to the next that begins with `== `, and what comes from there on.
+pub fn cut_text(text: &[u8]) -> (&[u8], &[u8]) {
+    cut_before(text, b"== ")
 }
 
 /// The number that a word writes; what is no digit counts as 0.

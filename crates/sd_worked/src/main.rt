@@ -1,31 +1,47 @@
-// Plays worked scenarios: standard input has many, standard output gets what each writes and its status.
+// Plays worked cases of the program's words: standard input has many, standard output gets what each writes and its status.
 //
-// A line `== NAME` begins a scenario, whose text is all lines up to the next such line. Lines that begin with `% ` may
-// stand in front of it: `% read N` and `% write N` let this call of the source, or of the sink, fail; `% fill N` makes a
-// text of so many bytes `#`; `% other` runs another word. What is written stands between the name and a line `= STATUS`.
+// A line `== NAME` begins a case, whose text is all lines up to the next such line. What is written stands between the name
+// and a line `= STATUS`. Lines that begin with `% ` may stand in front of the text:
+//
+// - `% idmap`, `% netgroup`, `% sudo`: which tool is run, where it is not `scenario`. The words of the last two are the name.
+// - `% words WORDS`: other words.
+// - `% read N`, `% write N`: this call of the source that is read first, or of the sink, fails.
+// - `% fill N`: so many bytes `#` stand in front of the text. `% many N`: so many domains do, and the end of what is written
+//   is printed alone.
+// - `% sid`: the text's first line is read as a SID. `% murmur SEED`: it is hashed.
+//
+// `scenario` and `idmap` read the text. The others read a configuration and entries: the lines in front of a line `--`, and
+// those behind it, or all lines where there is none. Where a text has none of the one or the other, those before stay.
 #![tactic(auto)]
 
-mod play;
+mod cases;
+mod files;
+mod numbers;
+mod tools;
 
-use play::Play;
+use cases::Case;
+use files::Files;
 use sd_base::{Memory, ReaderSource, WriterSink};
 use sd_plays::{Failure, cut_line, cut_text, print, read};
 use std::alloc::Global;
 use std::process::ExitCode;
 
-/// What all scenarios of a text write.
+/// What all cases of a text write.
 fn play_all(alloc: Global, text: &[u8]) -> Result<Vec<u8>, Memory> {
     let mut out = Vec::new(alloc);
+    let mut files = Files::new();
     let mut left = text;
     for _ in 0..text.len() {
         if left.is_empty() {
             break;
         }
         let (name, rest) = cut_line(left);
-        let (scenario, rest) = cut_text(rest);
+        let (text, rest) = cut_text(rest);
+        let case = Case::of(name, text);
+        files = case.files(files);
         out.extend_from_slice(name)?;
         out.push(b'\n')?;
-        Play::of(scenario).print(alloc, &mut out)?;
+        case.print(alloc, files, &mut out)?;
         left = rest;
     }
     Ok(out)
