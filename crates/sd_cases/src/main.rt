@@ -1,89 +1,58 @@
-// Plays worked journals on both cores: standard input has settings and steps, standard output gets the entries that they make.
+// Plays worked journals, and rows and restarts of them, on both cores: standard input has settings, steps and rows, standard output gets
+// the entries and the rows that they make.
 //
-// The lines are those of sd_steps, and two that print what is said of the journal. `marks NOW USER ENTRY` prints what the marks of
-// sd_creds, made of the journal, say of a user: the hash entry, the login that is cached, and the verdicts on a right guess, a wrong
-// one and a right try. `asked NOW KEY` prints what sd_journal replies to a question at this moment, also at one before the last
-// entry's, as where a clock went back; a step has the last entry's moment then.
+// The lines are those of sd_steps, and these.
+// - `kept` prints the rows that are kept, and `reopen` opens the cores again with them, as a restart does. `row ..` has a row as `kept`
+//   prints it, and `open` opens the cores with the rows of these lines, or prints the place of the first that is against the rules,
+//   counted from 0.
+// - `restarted` prints what the journal would be after a restart that keeps all that it can: the number and the moment of its next entry,
+//   and each entry's number and reply.
+// - `marks NOW USER ENTRY` prints what the marks of sd_creds, made of the journal, say of a user: the hash entry, the login that is
+//   cached, and the verdicts on a right guess, a wrong one and a right try.
+// - `asked NOW KEY` prints what sd_journal replies to a question at this moment, also at one before the last entry's, as where a clock
+//   went back; a step has the last entry's moment then.
+// - `waits` and `servers` print fixed calls of a request table (sd_table) and of the servers of a domain (sd_failover), which need no
+//   journal, and what each gives.
 #![tactic(auto)]
 
 mod asked;
+mod calls;
+mod keeping;
 mod marks;
+mod play;
+mod restarted;
+mod row_lines;
+mod rows;
+mod servers;
+mod waits;
 
-use asked::print_asked;
-use marks::print_marks;
-use sd_base::{Memory, ReaderSource, WriterSink, read_all, write_all};
-use sd_steps::cores::Cores;
-use sd_steps::settings;
-use sd_steps::words::{Words, cut, is};
+use play::Play;
+use sd_base::{Memory, ReaderSource, WriterSink};
+use sd_plays::{Failure, print, read};
+use sd_steps::words::cut;
 use std::alloc::Global;
 use std::process::ExitCode;
 
-/// The longest input, in bytes.
-const LIMIT: usize = 1 << 20;
-
-/// Carries out one line.
-fn play_line(
-    alloc: Global,
-    cores: &mut Cores,
-    line: &[u8],
-    out: &mut Vec<u8>,
-) -> Result<(), Memory> {
-    let mut words = Words::new(line);
-    let name = words.word();
-    if is(name, b"marks") {
-        print_marks(
-            alloc,
-            out,
-            &cores.settings,
-            cores.core.journal(),
-            words.rest(),
-        )
-    } else if is(name, b"asked") {
-        print_asked(
-            alloc,
-            out,
-            &cores.settings,
-            cores.core.journal(),
-            words.rest(),
-        )
-    } else {
-        cores.play(alloc, line, out)
-    }
-}
-
 /// What the lines of a text print.
-fn play(alloc: Global, text: &[u8]) -> Result<Vec<u8>, Memory> {
-    let mut out = Vec::new(alloc);
-    let settings = settings::read(alloc, &mut Words::new(b""))?;
-    let mut cores = Cores::open(alloc, settings)?;
+fn play_all(alloc: Global, text: &[u8]) -> Result<Vec<u8>, Memory> {
+    let mut play = Play::new(alloc)?;
     let mut left = text;
     for _ in 0..text.len() {
-        let (line, rest) = cut(left, b'\n');
-        play_line(alloc, &mut cores, line, &mut out)?;
-        left = rest;
         if left.is_empty() {
             break;
         }
+        let (line, rest) = cut(left, b'\n');
+        play.line(alloc, line)?;
+        left = rest;
     }
-    Ok(out)
+    Ok(play.printed())
 }
 
-fn run(rt: &HostRuntime) -> u8 {
-    let alloc = rt.alloc();
-    let mut source = ReaderSource::new(rt.stdin());
-    let mut sink = WriterSink::new(rt.stdout());
-    let Ok(text) = read_all(alloc, &mut source, LIMIT) else {
-        return 3;
-    };
-    let Ok(out) = play(alloc, text.as_slice()) else {
-        return 7;
-    };
-    match write_all(&mut sink, out.as_slice()) {
-        Ok(()) => 0,
-        Err(_) => 4,
-    }
+fn made(rt: &HostRuntime) -> Result<Vec<u8>, Failure> {
+    let text = read(rt.alloc(), &mut ReaderSource::new(rt.stdin()))?;
+    Ok(play_all(rt.alloc(), text.as_slice())?)
 }
 
 fn main(rt: HostRuntime) -> ExitCode {
-    ExitCode::from(run(&rt))
+    print(&mut WriterSink::new(rt.stdout()), made(&rt))
 }

@@ -15,7 +15,8 @@ fn print_numbered(out: &mut Vec<u8>, kind: &[u8], number: u32) -> Result<(), Mem
     print_digits(out, u64::from(number))
 }
 
-fn print_key(out: &mut Vec<u8>, key: &Key) -> Result<(), Memory> {
+/// Prints a key with a space before it.
+pub fn print_key(out: &mut Vec<u8>, key: &Key) -> Result<(), Memory> {
     match key {
         Key::User(name) => print_named(out, b"user:", name),
         Key::Uid(number) => print_numbered(out, b"uid:", *number),

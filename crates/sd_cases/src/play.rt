@@ -1,7 +1,11 @@
 // What each line does.
+use crate::asked::print_asked;
 use crate::keeping::{open_rows, print_kept, reopen};
+use crate::marks::print_marks;
 use crate::restarted::print_restarted;
 use crate::row_lines::row;
+use crate::servers::print_servers;
+use crate::waits::print_waits;
 use sd_base::Memory;
 use sd_core::OpenFault;
 use sd_rules::Rows;
@@ -54,15 +58,41 @@ impl Play {
         open_rows(alloc, &mut self.cores, rows)
     }
 
-    /// Carries out a line of rows or of a restart, or one that any journal has.
+    /// Carries out a line of fixed calls, or one that any journal has.
+    fn play_any(&mut self, alloc: Global, line: &[u8]) -> Result<(), Memory> {
+        if is(line, b"waits") {
+            print_waits(alloc, &mut self.out)
+        } else if is(line, b"servers") {
+            print_servers(alloc, &mut self.out)
+        } else {
+            self.cores.play(alloc, line, &mut self.out)
+        }
+    }
+
+    /// Prints what is said of the journal where a line asks for it, or carries out one of another kind.
+    fn tell(&mut self, alloc: Global, line: &[u8]) -> Result<(), Memory> {
+        let mut words = Words::new(line);
+        let name = words.word();
+        let entries = self.cores.core.journal();
+        let settings = &self.cores.settings;
+        if is(name, b"kept") {
+            print_kept(&self.cores, &mut self.out)
+        } else if is(name, b"restarted") {
+            print_restarted(alloc, &mut self.out, entries)
+        } else if is(name, b"marks") {
+            print_marks(alloc, &mut self.out, settings, entries, words.rest())
+        } else if is(name, b"asked") {
+            print_asked(alloc, &mut self.out, settings, entries, words.rest())
+        } else {
+            self.play_any(alloc, line)
+        }
+    }
+
+    /// Carries out a line of rows or of a restart, or one of another kind.
     fn play(&mut self, alloc: Global, line: &[u8]) -> Result<(), OpenFault> {
         let mut words = Words::new(line);
         let name = words.word();
-        if is(name, b"kept") {
-            print_kept(&self.cores, &mut self.out)?;
-        } else if is(name, b"restarted") {
-            print_restarted(alloc, &mut self.out, self.cores.core.journal())?;
-        } else if is(name, b"reopen") {
+        if is(name, b"reopen") {
             reopen(alloc, &mut self.cores)?;
             print_line(&mut self.out, line)?;
         } else if is(name, b"row") {
@@ -72,7 +102,7 @@ impl Play {
             print_line(&mut self.out, line)?;
             self.open(alloc)?;
         } else {
-            self.cores.play(alloc, line, &mut self.out)?;
+            self.tell(alloc, line)?;
         }
         Ok(())
     }
