@@ -53,8 +53,8 @@ pub fn print_dialled(
     let mut dialer = StubDialer::new(
         alloc,
         servers(alloc, directory)?,
-        numbers(alloc, dials)?,
-        numbers(alloc, calls)?,
+        numbers(alloc, b',', dials)?,
+        numbers(alloc, b',', calls)?,
     );
     let mut left = words;
     for _ in 0..words.len() {

@@ -61,12 +61,12 @@ pub fn number(word: &[u8]) -> u32 {
     read_number(word).unwrap_or(0)
 }
 
-/// The numbers of a word, with commas between; what is no number is passed over.
-pub fn numbers(alloc: Global, word: &[u8]) -> Result<Numbers, Memory> {
+/// The numbers of a list with such a byte between two; what is no number is passed over.
+pub fn numbers(alloc: Global, by: u8, list: &[u8]) -> Result<Numbers, Memory> {
     let mut numbers = Numbers::new(alloc);
-    let mut left = word;
-    for _ in 0..word.len() {
-        let (text, rest) = cut(b',', left);
+    let mut left = list;
+    for _ in 0..list.len() {
+        let (text, rest) = cut(by, left);
         if let Some(number) = read_number(text) {
             numbers.push(number)?;
         }

@@ -1,7 +1,8 @@
 // Plays worked bytes: standard input has bytes in hexadecimal digits, standard output gets what they come to as elements of BER, as
-// messages of LDAP, at a directory, over links, and in hashes of passwords.
+// messages of LDAP, at a directory, over links, in hashes of passwords, and as rows of a store.
 //
-// BYTES are words of hexadecimal digits, two for each byte; a word `N*DIGITS` stands for its bytes N times.
+// BYTES are words of hexadecimal digits, two for each byte; a word `N*DIGITS` stands for its bytes N times. Each word of BLOBS is one
+// blob, and `-` is one without bytes.
 //   elements BYTES         the tag and the length of each element in front, and what is behind them
 //   integer BYTES          the number of an element with these contents
 //   element BYTES          the octets in front of these contents, as an element of the tag 4
@@ -24,6 +25,10 @@
 //   cuts WORD BYTES        what the line of a word, one with bytes or a text alone, says of the first bytes, of none and of more up to
 //                          all but the last: from how many on it says so, and below how many that ends
 //   bind NAME WORD BYTES   what a bind comes to over a link that gives these bytes, and what was sent with the unbind behind it
+//   load BLOBS             the rows of a store of these blobs and the blobs that they are written as, or why it has none
+//   keeper CALLS           the keeper from here on is one that keeps nothing, and the calls of these numbers fail; at first none fails
+//   flush BLOBS            whether the keeper takes the rows of these blobs, and what it keeps then
+//   reload                 what a load of the keeper's own blobs comes to, and what it keeps then
 //
 // Each line is printed, and what it comes to behind it; empty lines, and those that begin with `#`, are only printed.
 #![tactic(auto)]
@@ -39,6 +44,7 @@ mod messages;
 mod output;
 mod play;
 mod searches;
+mod stores;
 
 use play::Play;
 use sd_base::{Memory, ReaderSource, WriterSink};

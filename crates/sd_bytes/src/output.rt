@@ -1,5 +1,5 @@
 // What is printed.
-use sd_base::Memory;
+use sd_base::{Blobs, Memory};
 use std::alloc::Global;
 
 /// The most bytes of which the digits are printed.
@@ -45,5 +45,15 @@ pub fn print_bytes(
     let count = bytes.len();
     print(out, format!(in alloc; "{word} {count} ")?.as_bytes())?;
     print_digits(out, &bytes[..count.min(MOST)])?;
+    print(out, b"\n")
+}
+
+/// A line of a word and the digits of each blob.
+pub fn print_blobs(out: &mut Vec<u8>, word: &[u8], blobs: &Blobs) -> Result<(), Memory> {
+    print(out, word)?;
+    for blob in blobs.items() {
+        print(out, b" ")?;
+        print_digits(out, blob.bytes())?;
+    }
     print(out, b"\n")
 }

@@ -8,14 +8,17 @@ use crate::links::print_link;
 use crate::messages::{print_message, print_same};
 use crate::output::{print, print_line, print_number};
 use crate::searches::{print_bind, print_searched};
+use crate::stores::{keeper_of, print_flush, print_load, print_reload};
 use sd_base::Memory;
+use sd_keeper::MemoryKeeper;
 use sd_pieces::cut;
 use sd_stub::Directory;
 use std::alloc::Global;
 
-/// The directory, and what was printed.
+/// The directory, the keeper, and what was printed.
 pub struct Play {
     directory: Directory,
+    keeper: MemoryKeeper,
     out: Vec<u8>,
 }
 
@@ -23,6 +26,7 @@ impl Drop for Play {
     fn drop(self) {
         let Play {
             directory: _,
+            keeper: _,
             out: _,
         } = self;
     }
@@ -96,12 +100,17 @@ impl Play {
     pub fn new(alloc: Global) -> Result<Play, Memory> {
         Ok(Play {
             directory: Directory::new(alloc, Vec::new(alloc))?,
+            keeper: keeper_of(alloc, b"")?,
             out: Vec::new(alloc),
         })
     }
 
     pub fn printed(self) -> Vec<u8> {
-        let Play { directory: _, out } = self;
+        let Play {
+            directory: _,
+            keeper: _,
+            out,
+        } = self;
         out
     }
 
@@ -115,6 +124,13 @@ impl Play {
             b"hash" => print_hash(alloc, &mut self.out, words),
             b"salt" => print_salt(alloc, &mut self.out, words),
             b"bind" => print_bind(alloc, &mut self.out, words),
+            b"load" => print_load(alloc, &mut self.out, words),
+            b"keeper" => {
+                self.keeper = keeper_of(alloc, words)?;
+                Ok(())
+            }
+            b"flush" => print_flush(alloc, &mut self.out, &mut self.keeper, words),
+            b"reload" => print_reload(alloc, &mut self.out, &mut self.keeper),
             _ => {
                 let bytes = bytes_for(alloc, word, words)?;
                 print_of(

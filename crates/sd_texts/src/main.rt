@@ -1,22 +1,25 @@
 // Reads worked texts: standard input has distinguished names, configurations and entries in LDIF, standard output gets
-// what each of them says, or why it is refused, and which records entries are.
+// what each of them says, or why it is refused, and which records, netgroup triples and sudo rules entries are.
 //
 // A line `dn TEXT` has a DN, a line `dns TEXT | TEXT` two of them. A line `conf`, `config` or `ldif` begins a block,
 // whose text runs to a line that is a dot alone, without the end of its last line; of a `config` everything is told, of
 // a `conf` whether it is read. So does a line `record user NAME`, `record uid N`, `record group NAME`, `record gid N` or
 // `record rule`, whose block is LDIF: of each entry it tells the name of the record that was asked for, or of the
-// attribute that does not fit. Other lines are printed as they stand.
+// attribute that does not fit. The block of a line `nets` is LDIF too: it tells of each triple the fields, and whether it
+// speaks of the host `H1`, the user `alice` and any domain, or the place of its first bad byte; and of each sudo rule the
+// name, the order, how many attributes sudo is handed, and whether it applies to alice, who is 1000 in the groups 1000 and
+// 2001 `staff` and in the netgroup `a`. Other lines are printed as they stand.
 #![tactic(auto)]
 
 mod configs;
 mod entries;
 mod lines;
 mod names;
+mod nets;
 mod records;
 
 use lines::{cut_block, cut_line};
 use sd_base::{Memory, ReaderSource, WriterSink, read_all, write_all};
-use sd_pieces::cut;
 use std::alloc::Global;
 use std::process::ExitCode;
 
@@ -36,25 +39,20 @@ fn print_one(alloc: Global, line: &[u8], out: &mut Vec<u8>) -> Result<(), Memory
 fn print_next<'a>(alloc: Global, text: &'a [u8], out: &mut Vec<u8>) -> Result<&'a [u8], Memory> {
     let (line, rest) = cut_line(text);
     let (block, behind) = cut_block(rest);
-    if line == b"conf".as_slice() {
-        configs::print_verdict(alloc, block, out)?;
-        return Ok(behind);
+    match line {
+        b"conf" => configs::print_verdict(alloc, block, out)?,
+        b"config" => configs::print_all(alloc, block, out)?,
+        b"ldif" => entries::print_all(alloc, block, out)?,
+        b"nets" => nets::print_all(alloc, block, out)?,
+        [b'r', b'e', b'c', b'o', b'r', b'd', b' ', asked @ ..] => {
+            records::print_all(alloc, asked, block, out)?
+        }
+        _ => {
+            print_one(alloc, line, out)?;
+            return Ok(rest);
+        }
     }
-    if line == b"config".as_slice() {
-        configs::print_all(alloc, block, out)?;
-        return Ok(behind);
-    }
-    if line == b"ldif".as_slice() {
-        entries::print_all(alloc, block, out)?;
-        return Ok(behind);
-    }
-    let (word, asked) = cut(b' ', line);
-    if word == b"record".as_slice() {
-        records::print_all(alloc, asked.unwrap_or(b""), block, out)?;
-        return Ok(behind);
-    }
-    print_one(alloc, line, out)?;
-    Ok(rest)
+    Ok(behind)
 }
 
 /// What all of a text says.
