@@ -11,10 +11,12 @@
 //   silent          what clients are told is not printed, only whether all were told the same
 //
 // Behind the name stand what the daemon wrote, `= STATUS`, what each client was told, a line for each reply, and the blobs that
-// its store has at the end, a line for each: its first octet, which tells the kind of row, and how many octets it has.
+// its store has at the end, a line for each: its first octet, which tells the kind of row, and how many octets it has. In front of
+// all stands how the word `directory` ends, over doors in memory and over TCP.
 #![tactic(auto)]
 
 mod case;
+mod directories;
 mod doors;
 mod host;
 mod keeper;
@@ -22,21 +24,24 @@ mod play;
 mod requests;
 
 use case::Case;
+use directories::print_directories;
 use play::Player;
 use sd_base::{Memory, ReaderSource, WriterSink};
 use sd_plays::{Failure, cut_line, cut_text, print, read};
 use std::alloc::Global;
+use std::net::{Net, TcpListener, TcpStream};
 use std::process::ExitCode;
 use std::sync::Wait;
 use std::thread::Threads;
+use std::time::Clock;
 
-/// What all daemons of a text write and leave.
-fn play_all<R: Threads + Wait + Sync>(
-    rt: &R,
-    alloc: Global,
-    text: &[u8],
-) -> Result<Vec<u8>, Memory> {
+/// How the word `directory` ends, and what all daemons of a text write and leave.
+fn play_all<R>(rt: &R, alloc: Global, text: &[u8]) -> Result<Vec<u8>, Memory>
+where
+    R: Threads + Wait + Net<Listener = TcpListener, Stream = TcpStream> + Clock + Sync,
+{
     let mut out = Vec::new(alloc);
+    print_directories(rt, alloc, &mut out)?;
     let mut player = Player::new(rt, alloc)?;
     let mut left = text;
     for _ in 0..text.len() {
@@ -54,11 +59,10 @@ fn play_all<R: Threads + Wait + Sync>(
 }
 
 /// What the daemons of an input write and leave.
-fn made<R: Threads + Wait + Sync>(
-    rt: &R,
-    alloc: Global,
-    text: Result<Vec<u8>, Failure>,
-) -> Result<Vec<u8>, Failure> {
+fn made<R>(rt: &R, alloc: Global, text: Result<Vec<u8>, Failure>) -> Result<Vec<u8>, Failure>
+where
+    R: Threads + Wait + Net<Listener = TcpListener, Stream = TcpStream> + Clock + Sync,
+{
     let text = text?;
     Ok(play_all(rt, alloc, text.as_slice())?)
 }

@@ -15,6 +15,3 @@ pub use refusals::{DOOR_FAULT, REFUSED};
 pub use server::directory;
 pub use serving::serve_clients;
 pub use tcp::TcpNetwork;
-
-#[cfg(test)]
-mod tests;

@@ -2,13 +2,14 @@
 //
 // A line `== LIMIT NAME` begins a row, over a journal that takes LIMIT entries: the lines up to the next such line. `A CALL` is a call
 // of the first seat, `B CALL` of the second. At its end the second seat is joined into the first, and the desk is closed. Behind the
-// rows four threads lead, join and collect at one desk.
+// rows four threads lead, join and collect at one desk, and two append to a list of numbers by turns.
 #![tactic(auto)]
 
 mod calls;
 mod crowd;
 mod desks;
 mod rows;
+mod turns;
 
 use crowd::play_four;
 use rows::play_row;
@@ -18,6 +19,8 @@ use std::alloc::Global;
 use std::process::ExitCode;
 use std::sync::Wait;
 use std::thread::Threads;
+use std::time::Clock;
+use turns::print_turns;
 
 /// The longest input, in bytes.
 const LIMIT: usize = 1 << 20;
@@ -60,11 +63,17 @@ fn play_rows<R: Wait>(rt: &R, alloc: Global, text: &[u8], out: &mut Vec<u8>) -> 
     Ok(())
 }
 
-fn play<R: Threads + Wait + Sync>(rt: &R, alloc: Global, text: &[u8]) -> Result<Vec<u8>, Memory> {
+fn play<R: Threads + Wait + Clock + Sync>(
+    rt: &R,
+    alloc: Global,
+    text: &[u8],
+) -> Result<Vec<u8>, Memory> {
     let mut out = Vec::new(alloc);
     play_rows(rt, alloc, text, &mut out)?;
     out.extend_from_slice(b"== four threads and 60 users\n")?;
     out.extend_from_slice(play_four(rt, alloc, USERS)?.as_bytes())?;
+    out.extend_from_slice(b"== two threads and a list of numbers\n")?;
+    print_turns(rt, alloc, &mut out)?;
     Ok(out)
 }
 

@@ -7,8 +7,6 @@
 mod chronicle;
 mod plays;
 mod rule;
-#[cfg(test)]
-mod tests;
 mod turn;
 mod view;
 

@@ -1,15 +1,14 @@
-//! A list of numbers that threads append to by turns.
+// A list of numbers that threads append to by turns.
 ghost use Rattle.std.specs.Prelude.{◌≡◌, ℕ, ◌+◌, ◌<◌, ◌^◌, List, [], ◌∷◌, ◌++◌, map, IfOk, IfSome, IfNone};
 ghost use Rattle.sd_turn.specs.Counts.{AreAllBetween};
 ghost use Rattle.sd_turn.specs.Seats.{mine, IsOwn, HoldsNoTurn, HasTaken, IsSameSeat};
 ghost use Rattle.std.proofs.Common.{sym, ap, ◌∙◌, append_assoc, append-nil};
 
-use crate::{Busy, Chronicle, Held, Seat, TAKEN, Turn, TurnHeld};
 use sd_base::Memory;
+use sd_turn::{Busy, Chronicle, Held, Seat, TAKEN, Turn, TurnHeld};
 use std::alloc::Global;
 use std::sync::Wait;
 use std::sync::atomic::{AtomicBool, Ordering};
-use std::test::Fail;
 use std::thread;
 use std::thread::{Threads, join};
 use std::time::{Clock, Duration};
@@ -139,19 +138,6 @@ fn two<R: Threads + Wait + Sync>(
     Ok((ones?, others?, value))
 }
 
-#[test]
-fn two_threads_append_by_turns(rt: HostRuntime) -> Result<(), Fail> {
-    let (ones, others, value) = two(&rt, rt.alloc(), 300)?;
-    let mut told = Vec::new(rt.alloc());
-    told.extend_from_slice(ones.as_slice())?;
-    told.extend_from_slice(others.as_slice())?;
-    told.sort()?;
-    assert!(rt; ones.len() == 300 && others.len() == 300 && value.next == 601);
-    assert!(rt; told.iter().zip(1u64..).all(|(number, at)| *number == at));
-    assert!(rt; value.items == told);
-    Ok(())
-}
-
 /// Keeps the turn for a while, then appends until the other thread is done.
 fn keep_and_append<R: Wait + Clock>(
     rt: &R,
@@ -219,48 +205,111 @@ fn wait_for_another<R: Threads + Wait + Clock + Sync>(
     Ok(turn.close(first).unwrap())
 }
 
-#[test]
-fn take_waits_for_the_turn_and_rest_for_an_entry(rt: HostRuntime) -> Result<(), Fail> {
-    let value = wait_for_another(&rt, rt.alloc())?;
-    assert!(rt; value.items.len() >= 3);
-    assert!(rt;
-        value
-            .items
-            .iter()
-            .zip(1u64..)
-            .all(|(number, at)| *number == at)
-    );
+/// Whether these are the numbers from 1 on.
+fn are_in_order(numbers: &[u64]) -> bool {
+    numbers.iter().zip(1u64..).all(|(number, at)| *number == at)
+}
+
+fn print_line(out: &mut Vec<u8>, words: &str) -> Result<(), Memory> {
+    out.extend_from_slice(words.as_bytes())?;
+    out.push(b'\n')?;
     Ok(())
 }
 
-#[test]
-fn a_taken_turn_is_busy(rt: HostRuntime) -> Result<(), Fail> {
-    let (turn, mut first) = Turn::new(rt.alloc(), Numbers::new(rt.alloc()))?;
+fn word(is: bool) -> &'static str {
+    if is { "yes" } else { "no" }
+}
+
+/// Two threads append 300 numbers each.
+fn print_two<R: Threads + Wait + Sync>(
+    rt: &R,
+    alloc: Global,
+    out: &mut Vec<u8>,
+) -> Result<(), Memory> {
+    let (ones, others, value) = two(rt, alloc, 300)?;
+    let mut numbers = Vec::new(alloc);
+    numbers.extend_from_slice(ones.as_slice())?;
+    numbers.extend_from_slice(others.as_slice())?;
+    numbers.sort()?;
+    let (first, second, next) = (ones.len(), others.len(), value.next);
+    let is_all = word(are_in_order(numbers.as_slice()) && value.items == numbers);
+    let line = format!(in alloc;
+        "{first} and {second} numbers, the next is {next}; each once, as the value has them: {is_all}"
+    )?;
+    print_line(out, line.as_str())
+}
+
+/// A thread waits for the turn, and then for an entry of another.
+fn print_waits<R: Threads + Wait + Clock + Sync>(
+    rt: &R,
+    alloc: Global,
+    out: &mut Vec<u8>,
+) -> Result<(), Memory> {
+    let value = wait_for_another(rt, alloc)?;
+    let is_enough = word(value.items.len() >= 3);
+    let is_in_order = word(are_in_order(value.items.as_slice()));
+    let line = format!(in alloc; "three numbers or more: {is_enough}; in order: {is_in_order}")?;
+    print_line(out, line.as_str())
+}
+
+/// A number that was appended, or none.
+fn print_number(alloc: Global, out: &mut Vec<u8>, number: Option<u64>) -> Result<(), Memory> {
+    match number {
+        Some(number) => print_line(out, format!(in alloc; "appended {number}")?.as_str()),
+        None => print_line(out, "appended nothing"),
+    }
+}
+
+/// Two seats try a turn that is free, taken, and given back.
+fn print_tries<R: Wait>(rt: &R, alloc: Global, out: &mut Vec<u8>) -> Result<(), Memory> {
+    let (turn, mut first) = Turn::new(alloc, Numbers::new(alloc))?;
     let mut second = turn.split(&mut first);
-    let held = turn
-        .try_take(&mut first)
-        .ok()
-        .expect(&rt, "the turn is free");
-    assert!(rt; turn.try_take(&mut second).err() == Some(Busy));
-    assert_eq!(rt; append(&turn, &mut first, held), Some(1));
-    let held = turn
-        .try_take(&mut second)
-        .ok()
-        .expect(&rt, "the turn was given back");
-    assert_eq!(rt; append(&turn, &mut second, held), Some(2));
-    turn.rest(&rt, &mut first);
+    let Ok(held) = turn.try_take(&mut first) else {
+        return print_line(out, "a free turn is busy");
+    };
+    let is_busy = word(turn.try_take(&mut second).err() == Some(Busy));
+    print_line(
+        out,
+        format!(in alloc; "a taken turn is busy: {is_busy}")?.as_str(),
+    )?;
+    print_number(alloc, out, append(&turn, &mut first, held))?;
+    let Ok(held) = turn.try_take(&mut second) else {
+        return print_line(out, "a turn that was given back is busy");
+    };
+    print_number(alloc, out, append(&turn, &mut second, held))?;
+    turn.rest(rt, &mut first);
     turn.join(&mut first, second);
-    let value = turn.close(first).ok().expect(&rt, "no other seat is out");
-    assert_eq!(rt; value.items.as_slice(), [1, 2].as_slice());
-    Ok(())
+    let value = turn.close(first).unwrap();
+    let is_both = word(value.items.as_slice() == [1, 2].as_slice());
+    print_line(
+        out,
+        format!(in alloc; "the value has both: {is_both}")?.as_str(),
+    )
 }
 
-#[test]
-fn a_turn_that_another_seat_holds_closes_without_its_value(rt: HostRuntime) -> Result<(), Fail> {
-    let (turn, mut first) = Turn::new(rt.alloc(), Numbers::new(rt.alloc()))?;
+/// A turn is closed by a seat while another holds it.
+fn print_held<R: Wait>(rt: &R, alloc: Global, out: &mut Vec<u8>) -> Result<(), Memory> {
+    let (turn, mut first) = Turn::new(alloc, Numbers::new(alloc))?;
     let second = turn.split(&mut first);
-    let held = turn.take(&rt, &mut first);
-    assert!(rt; turn.close(second).err() == Some(TurnHeld { found: TAKEN }));
+    let held = turn.take(rt, &mut first);
+    let is_held = word(turn.close(second).err() == Some(TurnHeld { found: TAKEN }));
     drop(held);
-    Ok(())
+    print_line(
+        out,
+        format!(in alloc;
+            "a turn that another seat holds closes without its value: {is_held}"
+        )?.as_str(),
+    )
+}
+
+/// Prints what seats of a turn are given.
+pub fn print_turns<R: Threads + Wait + Clock + Sync>(
+    rt: &R,
+    alloc: Global,
+    out: &mut Vec<u8>,
+) -> Result<(), Memory> {
+    print_two(rt, alloc, out)?;
+    print_waits(rt, alloc, out)?;
+    print_tries(rt, alloc, out)?;
+    print_held(rt, alloc, out)
 }

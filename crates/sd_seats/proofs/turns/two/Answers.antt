@@ -2,7 +2,7 @@ use Rattle.std.proofs.Common.{rules, ◌≡◌, ℕ, ◌++◌, map, IfOk, sym, a
 use Rattle.std.proofs.lemmas.List.{map-id}
 use Rattle.sd_turn.specs.Counts.{occurrences, AreAllBetween}
 use Rattle.sd_turn.specs.Seats.{opening, mine}
-use Rattle.sd_turn.proofs.tests.two.Goals as goal
+use Rattle.sd_seats.proofs.turns.two.Goals as goal
 
 pub returns : goal.returns
 returns g c n = let seat = c.join.new.seat in

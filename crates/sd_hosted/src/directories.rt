@@ -1,19 +1,18 @@
-//! The word `directory`: how it ends, and two clients over TCP.
+// The word `directory`: how it ends, and two clients over TCP.
 ghost use Rattle.std.specs.Prelude.{◌≡◌, None};
 ghost use Rattle.std.specs.Option.{ForSome};
 
-use crate::{DOOR_FAULT, Network, REFUSED, TcpNetwork, directory, is_address};
 use sd_base::{Memory, MemorySink, MemorySource, Numbers};
 use sd_doors::{DoorFailed, Doors, MemoryDoors};
+use sd_ldap_server::{Network, TcpNetwork, directory, is_address};
 use sd_tcp_doors::TcpDoors;
-use sd_tools::{DONE, READ_FAULT, Status, WRITE_FAULT};
+use sd_tools::Status;
 use std::alloc::Global;
 use std::collections::VecDeque;
 use std::io;
 use std::io::{Read, Write};
 use std::net::{Net, TcpListener, TcpStream};
 use std::sync::Wait;
-use std::test::Fail;
 use std::thread::{Threads, join};
 use std::time::Clock;
 
@@ -127,32 +126,28 @@ fn failing(alloc: Global, call: u32) -> Result<Numbers, Memory> {
     Ok(numbers)
 }
 
-/// An LDIF, the address, which calls on it, on the sink and on the doors are to fail, and how the word ends.
+/// An LDIF, the address, and which calls on it, on the sink and on the doors are to fail.
 #[derive(Clone, Copy)]
-struct Case {
+struct Served {
     ldif: &'static str,
     address: &'static str,
     failing_read: u32,
     failing_write: u32,
     failing_accept: u32,
-    status: Status,
-    output: &'static str,
 }
 
-const fn plain(ldif: &'static str, status: Status, output: &'static str) -> Case {
-    Case {
+const fn served(ldif: &'static str) -> Served {
+    Served {
         ldif,
         address: ADDRESS,
         failing_read: 0,
         failing_write: 0,
         failing_accept: 0,
-        status,
-        output,
     }
 }
 
 /// The status and the output of a case.
-fn ending_of<R: Wait>(rt: &R, alloc: Global, case: &Case) -> Result<(Status, Vec<u8>), Memory> {
+fn ending_of<R: Wait>(rt: &R, alloc: Global, case: &Served) -> Result<(Status, Vec<u8>), Memory> {
     let ldif = Vec::from_slice(alloc, case.ldif.as_bytes())?;
     let mut source = MemorySource::new(ldif, failing(alloc, case.failing_read)?);
     let mut sink = MemorySink::new(Vec::new(alloc), failing(alloc, case.failing_write)?);
@@ -169,44 +164,19 @@ fn ending_of<R: Wait>(rt: &R, alloc: Global, case: &Case) -> Result<(Status, Vec
     Ok((status, Vec::from_slice(alloc, sink.bytes())?))
 }
 
-#[test]
-fn endings(rt: HostRuntime) -> Result<(), Fail> {
-    let mut cases = [
-        plain("", DONE, ""),
-        plain("dn: dc=test\ncn: a\n", DONE, ""),
-        plain("cn: a\n", REFUSED, "refused NoDn 1\n"),
-        plain("dn: dc=test\ncn:: a\n", REFUSED, "refused BadBase64 2\n"),
-        plain("dn: dc=test\ncn:< a\n", REFUSED, "refused BadLine 2\n"),
-        plain("", READ_FAULT, ""),
-        plain("", DOOR_FAULT, "door fault\n"),
-        plain("", DOOR_FAULT, "door fault\n"),
-        plain("cn: a\n", WRITE_FAULT, ""),
-    ];
-    cases[5].failing_read = 1;
-    cases[6].failing_accept = 1;
-    cases[7].address = "localhost:390";
-    cases[8].failing_write = 1;
-    for case in &cases {
-        let (status, output) = ending_of(&rt, rt.alloc(), case)?;
-        assert_eq!(rt; status, case.status, "of {:?}", case.ldif);
-        assert_eq!(rt; output.as_slice(), case.output.as_bytes());
-    }
-    Ok(())
-}
-
-/// Words, and whether they are addresses.
-const WORDS: [(&str, bool); 11] = [
-    ("localhost:389", true),
-    ("127.0.0.1:1", true),
-    ("a_b-c.d:65535", true),
-    ("localhost:65536", false),
-    ("localhost:0", false),
-    ("localhost:0389", false),
-    ("localhost:", false),
-    ("localhost", false),
-    (":389", false),
-    ("local host:389", false),
-    ("::1:389", false),
+/// Words that are addresses, and words that are none.
+const WORDS: [&str; 11] = [
+    "localhost:389",
+    "127.0.0.1:1",
+    "a_b-c.d:65535",
+    "localhost:65536",
+    "localhost:0",
+    "localhost:0389",
+    "localhost:",
+    "localhost",
+    ":389",
+    "local host:389",
+    "::1:389",
 ];
 
 /// What a client that binds is answered.
@@ -253,21 +223,85 @@ where
     Ok((status, answers?))
 }
 
-#[test]
-fn clients_one_after_the_other(rt: HostRuntime) -> Result<(), Fail> {
-    for (word, is) in WORDS {
-        assert_eq!(rt; is_address(word.as_bytes()), is, "{word}");
+fn print_ending(
+    alloc: Global,
+    out: &mut Vec<u8>,
+    output: &[u8],
+    status: Status,
+) -> Result<(), Memory> {
+    out.extend_from_slice(output)?;
+    out.extend_from_slice(format!(in alloc; "= {status}\n")?.as_bytes())?;
+    Ok(())
+}
+
+/// How the word ends over an LDIF, without one, and where a call fails.
+fn print_endings<R: Wait>(rt: &R, alloc: Global, out: &mut Vec<u8>) -> Result<(), Memory> {
+    let mut cases = [
+        served(""),
+        served("dn: dc=test\ncn: a\n"),
+        served("cn: a\n"),
+        served("dn: dc=test\ncn:: a\n"),
+        served("dn: dc=test\ncn:< a\n"),
+        served(""),
+        served(""),
+        served(""),
+        served("cn: a\n"),
+    ];
+    cases[5].failing_read = 1;
+    cases[6].failing_accept = 1;
+    cases[7].address = "localhost:390";
+    cases[8].failing_write = 1;
+    for case in &cases {
+        let (status, output) = ending_of(rt, alloc, case)?;
+        print_ending(alloc, out, output.as_slice(), status)?;
     }
-    let alloc = rt.alloc();
-    let listener = TcpListener::bind(&rt, "127.0.0.1:0")?;
+    Ok(())
+}
+
+fn print_word(out: &mut Vec<u8>, word: &str) -> Result<(), Memory> {
+    out.extend_from_slice(word.as_bytes())?;
+    let kind = if is_address(word.as_bytes()) {
+        " is an address\n"
+    } else {
+        " is none\n"
+    };
+    out.extend_from_slice(kind.as_bytes())?;
+    Ok(())
+}
+
+/// How the word ends where its port is taken, and then with two clients that bind.
+fn over_tcp<R>(rt: &R, alloc: Global, out: &mut Vec<u8>) -> io::Result<()>
+where
+    R: Threads + Wait + Net<Listener = TcpListener, Stream = TcpStream> + Clock + Sync,
+{
+    let listener = TcpListener::bind(rt, "127.0.0.1:0")?;
     let port = listener.local_addr()?.port();
     let address = format!(in alloc; "127.0.0.1:{port}")?;
-    let (status, output) = ending_at(&rt, alloc, address.as_str())?;
-    assert_eq!(rt; status, DOOR_FAULT);
-    assert_eq!(rt; output.as_slice(), b"door fault\n".as_slice());
+    let (status, output) = ending_at(rt, alloc, address.as_str())?;
+    print_ending(alloc, out, output.as_slice(), status)?;
     drop(listener);
-    let (status, answers) = bind_twice(&rt, alloc, address.as_str())?;
-    assert_eq!(rt; answers, [BOUND, BOUND]);
-    assert_eq!(rt; status, DONE);
+    let (status, answers) = bind_twice(rt, alloc, address.as_str())?;
+    let told: &[u8] = if answers == [BOUND, BOUND] {
+        b"both are bound\n"
+    } else {
+        b"other answers\n"
+    };
+    print_ending(alloc, out, told, status)?;
+    Ok(())
+}
+
+/// Prints how the word `directory` ends, in memory and over TCP.
+pub fn print_directories<R>(rt: &R, alloc: Global, out: &mut Vec<u8>) -> Result<(), Memory>
+where
+    R: Threads + Wait + Net<Listener = TcpListener, Stream = TcpStream> + Clock + Sync,
+{
+    out.extend_from_slice(b"== the word directory\n")?;
+    print_endings(rt, alloc, out)?;
+    for word in WORDS {
+        print_word(out, word)?;
+    }
+    if over_tcp(rt, alloc, out).is_err() {
+        out.extend_from_slice(b"no socket\n")?;
+    }
     Ok(())
 }
