@@ -136,7 +136,7 @@ struct Served {
     failing_accept: u32,
 }
 
-const fn served(ldif: &'static str) -> Served {
+const fn unfailing(ldif: &'static str) -> Served {
     Served {
         ldif,
         address: ADDRESS,
@@ -237,15 +237,15 @@ fn print_ending(
 /// How the word ends over an LDIF, without one, and where a call fails.
 fn print_endings<R: Wait>(rt: &R, alloc: Global, out: &mut Vec<u8>) -> Result<(), Memory> {
     let mut cases = [
-        served(""),
-        served("dn: dc=test\ncn: a\n"),
-        served("cn: a\n"),
-        served("dn: dc=test\ncn:: a\n"),
-        served("dn: dc=test\ncn:< a\n"),
-        served(""),
-        served(""),
-        served(""),
-        served("cn: a\n"),
+        unfailing(""),
+        unfailing("dn: dc=test\ncn: a\n"),
+        unfailing("cn: a\n"),
+        unfailing("dn: dc=test\ncn:: a\n"),
+        unfailing("dn: dc=test\ncn:< a\n"),
+        unfailing(""),
+        unfailing(""),
+        unfailing(""),
+        unfailing("cn: a\n"),
     ];
     cases[5].failing_read = 1;
     cases[6].failing_accept = 1;
@@ -269,25 +269,51 @@ fn print_word(out: &mut Vec<u8>, word: &str) -> Result<(), Memory> {
     Ok(())
 }
 
-/// How the word ends where its port is taken, and then with two clients that bind.
-fn over_tcp<R>(rt: &R, alloc: Global, out: &mut Vec<u8>) -> io::Result<()>
+/// Listens at a port of this host, and gives its number too.
+fn listen<R>(net: &R) -> io::Result<(TcpListener, u16)>
+where
+    R: Net<Listener = TcpListener, Stream = TcpStream>,
+{
+    let listener = TcpListener::bind(net, "127.0.0.1:0")?;
+    let port = listener.local_addr()?.port();
+    Ok((listener, port))
+}
+
+/// How the word ends at an address that is taken.
+fn print_taken<R: Wait + Net + Clock>(
+    rt: &R,
+    alloc: Global,
+    address: &str,
+    out: &mut Vec<u8>,
+) -> Result<(), Memory> {
+    let (status, output) = ending_at(rt, alloc, address)?;
+    print_ending(alloc, out, output.as_slice(), status)
+}
+
+/// What two clients that bind are answered, and how the word ends then.
+fn print_bound<R>(rt: &R, alloc: Global, address: &str, out: &mut Vec<u8>) -> Result<(), Memory>
 where
     R: Threads + Wait + Net<Listener = TcpListener, Stream = TcpStream> + Clock + Sync,
 {
-    let listener = TcpListener::bind(rt, "127.0.0.1:0")?;
-    let port = listener.local_addr()?.port();
-    let address = format!(in alloc; "127.0.0.1:{port}")?;
-    let (status, output) = ending_at(rt, alloc, address.as_str())?;
-    print_ending(alloc, out, output.as_slice(), status)?;
-    drop(listener);
-    let (status, answers) = bind_twice(rt, alloc, address.as_str())?;
-    let told: &[u8] = if answers == [BOUND, BOUND] {
-        b"both are bound\n"
-    } else {
-        b"other answers\n"
+    match bind_twice(rt, alloc, address) {
+        Ok((status, [BOUND, BOUND])) => print_ending(alloc, out, b"both are bound\n", status),
+        Ok((status, _)) => print_ending(alloc, out, b"other answers\n", status),
+        Err(_) => Ok(out.extend_from_slice(b"no connection\n")?),
+    }
+}
+
+/// How the word ends where its port is taken, and then with two clients.
+fn print_over_tcp<R>(rt: &R, alloc: Global, out: &mut Vec<u8>) -> Result<(), Memory>
+where
+    R: Threads + Wait + Net<Listener = TcpListener, Stream = TcpStream> + Clock + Sync,
+{
+    let Ok((listener, port)) = listen(rt) else {
+        return Ok(out.extend_from_slice(b"no socket\n")?);
     };
-    print_ending(alloc, out, told, status)?;
-    Ok(())
+    let address = format!(in alloc; "127.0.0.1:{port}")?;
+    print_taken(rt, alloc, address.as_str(), out)?;
+    drop(listener);
+    print_bound(rt, alloc, address.as_str(), out)
 }
 
 /// Prints how the word `directory` ends, in memory and over TCP.
@@ -300,8 +326,5 @@ where
     for word in WORDS {
         print_word(out, word)?;
     }
-    if over_tcp(rt, alloc, out).is_err() {
-        out.extend_from_slice(b"no socket\n")?;
-    }
-    Ok(())
+    print_over_tcp(rt, alloc, out)
 }

@@ -260,46 +260,98 @@ fn print_number(alloc: Global, out: &mut Vec<u8>, number: Option<u64>) -> Result
     }
 }
 
+/// What two seats that try a turn are given.
+#[derive(Clone, Copy)]
+struct Tried {
+    /// The number that the first seat appended, with the turn free.
+    free: Option<u64>,
+    /// Whether the turn is busy for the second once the first has taken it.
+    is_busy: bool,
+    /// The number that the first appended then.
+    taken: Option<u64>,
+    /// The number that the second appended, with the turn given back.
+    given_back: Option<u64>,
+    /// Whether the value has the three at the end.
+    has_all: bool,
+}
+
+/// Takes a turn, if it is free, and appends.
+fn try_append(turn: &Turn<Numbers>, seat: &mut Seat<Numbers>) -> Option<u64>
+    requires { IsOwn turn.now seat.old × HoldsNoTurn seat.old }
+    ensures { IsOwn turn.now seat.new × HoldsNoTurn seat.new × IsSameSeat seat.old seat.new }
+{
+    let held = turn.try_take(seat).ok()?;
+    append(turn, seat, held)
+}
+
+/// Whether another seat has taken the turn.
+fn is_busy(turn: &Turn<Numbers>, seat: &mut Seat<Numbers>) -> bool
+    requires { IsOwn turn.now seat.old × HoldsNoTurn seat.old }
+    ensures { IsOwn turn.now seat.new × HoldsNoTurn seat.new × IsSameSeat seat.old seat.new }
+{
+    match turn.try_take(seat) {
+        Ok(held) => {
+            turn.give(seat, held);
+            false
+        }
+        Err(Busy) => true,
+    }
+}
+
 /// Two seats try a turn that is free, taken, and given back.
-fn print_tries<R: Wait>(rt: &R, alloc: Global, out: &mut Vec<u8>) -> Result<(), Memory> {
+fn tries<R: Wait>(rt: &R, alloc: Global) -> Result<Tried, Memory> {
     let (turn, mut first) = Turn::new(alloc, Numbers::new(alloc))?;
     let mut second = turn.split(&mut first);
-    let Ok(held) = turn.try_take(&mut first) else {
-        return print_line(out, "a free turn is busy");
-    };
-    let is_busy = word(turn.try_take(&mut second).err() == Some(Busy));
+    let free = try_append(&turn, &mut first);
+    let held = turn.take(rt, &mut first);
+    let is_busy = is_busy(&turn, &mut second);
+    let taken = append(&turn, &mut first, held);
+    let given_back = try_append(&turn, &mut second);
+    turn.rest(rt, &mut first);
+    turn.join(&mut first, second);
+    let value = turn.close(first).unwrap();
+    Ok(Tried {
+        free,
+        is_busy,
+        taken,
+        given_back,
+        has_all: value.items.as_slice() == [1, 2, 3].as_slice(),
+    })
+}
+
+fn print_tries<R: Wait>(rt: &R, alloc: Global, out: &mut Vec<u8>) -> Result<(), Memory> {
+    let tried = tries(rt, alloc)?;
+    print_number(alloc, out, tried.free)?;
+    let is_busy = word(tried.is_busy);
     print_line(
         out,
         format!(in alloc; "a taken turn is busy: {is_busy}")?.as_str(),
     )?;
-    print_number(alloc, out, append(&turn, &mut first, held))?;
-    let Ok(held) = turn.try_take(&mut second) else {
-        return print_line(out, "a turn that was given back is busy");
-    };
-    print_number(alloc, out, append(&turn, &mut second, held))?;
-    turn.rest(rt, &mut first);
-    turn.join(&mut first, second);
-    let value = turn.close(first).unwrap();
-    let is_both = word(value.items.as_slice() == [1, 2].as_slice());
+    print_number(alloc, out, tried.taken)?;
+    print_number(alloc, out, tried.given_back)?;
+    let has_all = word(tried.has_all);
     print_line(
         out,
-        format!(in alloc; "the value has both: {is_both}")?.as_str(),
+        format!(in alloc; "the value has all three: {has_all}")?.as_str(),
     )
 }
 
-/// A turn is closed by a seat while another holds it.
-fn print_held<R: Wait>(rt: &R, alloc: Global, out: &mut Vec<u8>) -> Result<(), Memory> {
+/// Whether a turn that one seat holds is closed by another without its value.
+fn closes_empty<R: Wait>(rt: &R, alloc: Global) -> Result<bool, Memory> {
     let (turn, mut first) = Turn::new(alloc, Numbers::new(alloc))?;
     let second = turn.split(&mut first);
     let held = turn.take(rt, &mut first);
-    let is_held = word(turn.close(second).err() == Some(TurnHeld { found: TAKEN }));
+    let is_empty = turn.close(second).err() == Some(TurnHeld { found: TAKEN });
     drop(held);
-    print_line(
-        out,
-        format!(in alloc;
-            "a turn that another seat holds closes without its value: {is_held}"
-        )?.as_str(),
-    )
+    Ok(is_empty)
+}
+
+fn print_held<R: Wait>(rt: &R, alloc: Global, out: &mut Vec<u8>) -> Result<(), Memory> {
+    let is_empty = word(closes_empty(rt, alloc)?);
+    let line = format!(in alloc;
+        "a turn that another seat holds closes without its value: {is_empty}"
+    )?;
+    print_line(out, line.as_str())
 }
 
 /// Prints what seats of a turn are given.
