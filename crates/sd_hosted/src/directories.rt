@@ -290,14 +290,22 @@ fn print_taken<R: Wait + Net + Clock>(
     print_ending(alloc, out, output.as_slice(), status)
 }
 
-/// What two clients that bind are answered, and how the word ends then.
+/// How the word ends for two clients that bind, and whether both are told that they are bound.
+fn are_bound<R>(rt: &R, alloc: Global, address: &str) -> io::Result<(Status, bool)>
+where
+    R: Threads + Wait + Net<Listener = TcpListener, Stream = TcpStream> + Clock + Sync,
+{
+    let (status, answers) = bind_twice(rt, alloc, address)?;
+    Ok((status, answers == [BOUND, BOUND]))
+}
+
 fn print_bound<R>(rt: &R, alloc: Global, address: &str, out: &mut Vec<u8>) -> Result<(), Memory>
 where
     R: Threads + Wait + Net<Listener = TcpListener, Stream = TcpStream> + Clock + Sync,
 {
-    match bind_twice(rt, alloc, address) {
-        Ok((status, [BOUND, BOUND])) => print_ending(alloc, out, b"both are bound\n", status),
-        Ok((status, _)) => print_ending(alloc, out, b"other answers\n", status),
+    match are_bound(rt, alloc, address) {
+        Ok((status, true)) => print_ending(alloc, out, b"both are bound\n", status),
+        Ok((status, false)) => print_ending(alloc, out, b"other answers\n", status),
         Err(_) => Ok(out.extend_from_slice(b"no connection\n")?),
     }
 }
