@@ -6,8 +6,8 @@
 // - `% idmap`, `% netgroup`, `% sudo`: which tool is run, where it is not `scenario`. The words of the last two are the name.
 // - `% words WORDS`: other words.
 // - `% read N`, `% write N`: this call of the source that is read first, or of the sink, fails.
-// - `% fill N`: so many bytes `#` stand in front of the text. `% many N`: so many domains do, and the end of what is written
-//   is printed alone.
+// - `% fill N`: so many bytes `#` stand in front of the text. `% many N`: so many lines `domain ..` stand there, and of what
+//   is written only the end is printed.
 // - `% sid`: the text's first line is read as a SID. `% murmur SEED`: it is hashed.
 //
 // `scenario` and `idmap` read the text. The others read a configuration and entries: the lines in front of a line `--`, and
