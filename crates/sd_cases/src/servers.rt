@@ -1,4 +1,6 @@
 // Worked calls of the servers of a domain: which of them is picked after falls.
+ghost use Rattle.std.specs.Prelude.{◌≡◌, [], ◌∷◌, None, false, OnOk};
+
 use crate::calls::print_gave;
 use sd_base::Memory;
 use sd_failover::Servers;
@@ -72,9 +74,33 @@ fn print_without(alloc: Global, out: &mut Vec<u8>) -> Result<(), Memory> {
     pick(&Servers::new(alloc, 0, 0), out, 1, 0)
 }
 
+/// The first server falls twice under each of two requests: one fall is kept.
+fn fall_again(servers: &mut Servers) -> Result<(), Memory>
+    requires { servers.old.falls ≡ [] }
+    ensures { OnOk result (servers.new.falls ≡ record { request = None; server = 0; moment = 1; online_since = false } ∷ []) }
+{
+    servers.fell(0, 0, 0)?;
+    servers.fell(0, 0, 0)?;
+    servers.closed(0);
+    servers.fell(1, 0, 1)?;
+    servers.fell(1, 0, 1)?;
+    servers.closed(1);
+    Ok(())
+}
+
+/// An online after that: none is kept.
+fn come_back(servers: &mut Servers)
+    requires { servers.old.falls ≡ record { request = None; server = 0; moment = 1; online_since = false } ∷ [] }
+    ensures { servers.new.falls ≡ [] }
+{
+    servers.online();
+}
+
 /// A server falls again and again.
 fn print_after_many(alloc: Global, out: &mut Vec<u8>) -> Result<(), Memory> {
     let mut servers = Servers::new(alloc, 1, 1);
+    fall_again(&mut servers)?;
+    come_back(&mut servers);
     print_line(out, b"servers 1 1")?;
     for request in 0..100 {
         servers.fell(request, 0, request)?;

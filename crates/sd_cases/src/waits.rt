@@ -1,5 +1,5 @@
 // Worked calls of the request table: which requests are open, which tickets wait, and what they take.
-ghost use Rattle.std.specs.Prelude.{◌≡◌, []};
+ghost use Rattle.std.specs.Prelude.{◌≡◌, [], OnOk};
 ghost use Rattle.sd_rules.specs.Keys.{kind_of};
 
 use crate::calls::print_gave;
@@ -75,6 +75,7 @@ fn print_coalesced(requests: &mut Requests, alice: &Key, out: &mut Vec<u8>) -> R
 /// Tickets leave before and after the close; nothing is kept of a request once the last of them is gone.
 fn print_left(requests: &mut Requests, out: &mut Vec<u8>) -> Result<(), Memory>
     requires { requests.old ≡ record { requests = []; tickets = [] } }
+    ensures { OnOk result (requests.new ≡ record { requests = []; tickets = [] }) }
 {
     requests.lead(1, &Key::Rules)?;
     requests.join(1, 2)?;
