@@ -3,6 +3,8 @@
 
 mod doors;
 mod memory;
+mod tcp;
 
 pub use doors::{DoorFailed, Doors};
 pub use memory::{Connection, MemoryDoors};
+pub use tcp::TcpDoors;

@@ -3,9 +3,8 @@ ghost use Rattle.std.specs.Prelude.{◌≡◌, None};
 ghost use Rattle.std.specs.Option.{ForSome};
 
 use sd_base::{Memory, MemorySink, MemorySource, Numbers};
-use sd_doors::{DoorFailed, Doors, MemoryDoors};
+use sd_doors::{DoorFailed, Doors, MemoryDoors, TcpDoors};
 use sd_ldap_server::{Network, TcpNetwork, directory, is_address};
-use sd_tcp_doors::TcpDoors;
 use sd_tools::Status;
 use std::alloc::Global;
 use std::collections::VecDeque;

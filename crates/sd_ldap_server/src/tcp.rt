@@ -2,8 +2,7 @@
 ghost use Rattle.std.specs.Prelude.{◌≡◌, false, None};
 
 use crate::network::Network;
-use sd_doors::DoorFailed;
-use sd_tcp_doors::TcpDoors;
+use sd_doors::{DoorFailed, TcpDoors};
 use std::net::Net;
 use std::time::Clock;
 

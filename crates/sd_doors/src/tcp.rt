@@ -1,8 +1,8 @@
-//! The doors that clients come through.
+//! Doors for clients over TCP.
 ghost use Rattle.std.specs.Prelude.{◌≡◌, false, IfOk};
 
+use crate::doors::{DoorFailed, Doors};
 use sd_base::{ReaderSource, Sink, Source, WriterSink};
-use sd_doors::{DoorFailed, Doors};
 use std::io::ErrorKind;
 use std::net::{Net, OpenListener, OpenStream, TcpListener};
 use std::time::{Clock, Duration};
