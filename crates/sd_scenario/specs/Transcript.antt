@@ -14,7 +14,7 @@ use Rattle.sd_layout.specs.Blocks.{statements_of}
 use Rattle.sd_layout.specs.Faults.{config_of}
 use Rattle.sd_layout.specs.Head.{Head, head_of}
 use Rattle.sd_stub.specs.declared.Mode.{Mode}
-use Rattle.sd_directory.specs.Entries.{user_entry, group_entry, host_entry, service_entry, rule_entry, dn_of}
+use Rattle.sd_layout.specs.Entries.{user_entry, group_entry, host_entry, service_entry, rule_entry, dn_of}
 use Rattle.sd_stub.specs.Keeping.{put, put_all, removed}
 use Rattle.sd_scenario.specs.Clients.{begun}
 use Rattle.sd_scenario.specs.Courses.{Course, LoginWords, lookup, login, check}

@@ -3,8 +3,8 @@ ghost use Rattle.std.specs.Prelude.{◌≡◌, ℕ, ◌+◌, ◌-◌, ◌<◌, �
 ghost use Rattle.sd_rules.specs.declared.events.Event.TheVariants as events;
 ghost use Rattle.sd_rules.specs.Lookups.{is_client_key};
 ghost use Rattle.sd_rules.specs.Steps.{is_steppable};
-ghost use Rattle.sd_directory.specs.Entries.{dn_of};
 ghost use Rattle.sd_conf.specs.declared.config.Config.{Config};
+ghost use Rattle.sd_layout.specs.Entries.{dn_of};
 ghost use Rattle.sd_layout.specs.Faults.{has_few_servers};
 ghost use Rattle.sd_stub.specs.Keeping as keeping;
 ghost use Rattle.sd_scenario.specs.Courses as courses;
@@ -21,7 +21,7 @@ use crate::task::ClientTask;
 use sd_base::{Copied, Memory, Text};
 use sd_conf::Config;
 use sd_core::Core;
-use sd_directory::{dn_of, group_entry, host_entry, rule_entry, service_entry, user_entry};
+use sd_layout::{dn_of, group_entry, host_entry, rule_entry, service_entry, user_entry};
 use sd_ldap::DirEntry;
 use sd_lines::{Kind, Line};
 use sd_rules::{Entry, Event, Key, Rows, Settings, What};

@@ -1,6 +1,6 @@
 //! The users of the directory.
 use sd_base::{Memory, Text};
-use sd_directory::user_entry;
+use sd_layout::user_entry;
 use sd_lines::UserLine;
 use sd_stub::Directory;
 use sd_wire::fields::push_numbered;

@@ -1,6 +1,6 @@
 use Rattle.std.proofs.Common.{◌≡◌, ◌++◌, drop}
-use Rattle.sd_directory.specs.Entries.{categories}
-use Rattle.sd_directory.proofs.rules.categories.Given as goal
+use Rattle.sd_layout.specs.Entries.{categories}
+use Rattle.sd_layout.proofs.rules.categories.Given as goal
 
 -- those so far, and those left
 abbrev pub invariant-loop-item : goal.invariant-loop-item

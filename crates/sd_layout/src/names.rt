@@ -1,6 +1,6 @@
 //! The distinguished names of users, groups, hosts, services and rules.
 ghost use Rattle.std.specs.Prelude.{◌≡◌, ◌++◌, IfOk, OnOk, codes};
-ghost use Rattle.sd_directory.specs.Names as names;
+ghost use Rattle.sd_layout.specs.Names as names;
 
 use sd_base::{Memory, Text};
 use std::alloc::Global;

@@ -17,7 +17,7 @@ use Rattle.sd_lines.specs.declared.lines.Side.TheVariants as sides
 use Rattle.sd_lines.specs.declared.lines.UserLine.{UserLine}
 use Rattle.sd_lines.specs.declared.lines.Whom.{Whom}
 use Rattle.sd_lines.specs.declared.lines.Whom.TheVariants as whoms
-use Rattle.sd_directory.specs.Names.{user_dn, group_dn, host_dn, host_group_dn, service_dn, service_group_dn, rule_dn}
+use Rattle.sd_layout.specs.Names.{user_dn, group_dn, host_dn, host_group_dn, service_dn, service_group_dn, rule_dn}
 
 abbrev pub attribute : List ℕ → List (List ℕ) → Attribute
 attribute name values = record { name = name; values = values }

@@ -1,6 +1,6 @@
 use Rattle.std.proofs.Common.{◌≡◌, ◌++◌, drop}
-use Rattle.sd_directory.specs.Entries.{named}
-use Rattle.sd_directory.proofs.rules.named.Given as goal
+use Rattle.sd_layout.specs.Entries.{named}
+use Rattle.sd_layout.proofs.rules.named.Given as goal
 
 -- those so far, and those left
 abbrev pub invariant-loop-item : goal.invariant-loop-item

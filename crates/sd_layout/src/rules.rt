@@ -1,6 +1,6 @@
 //! The entries of access rules.
 ghost use Rattle.std.specs.Prelude.{◌≡◌, ◌++◌, [], ◌∷◌, IfOk, OnOk, codes};
-ghost use Rattle.sd_directory.specs.Entries as entries;
+ghost use Rattle.sd_layout.specs.Entries as entries;
 
 use crate::entries::{push_bytes, push_filled, push_text};
 use crate::names::{

@@ -1,6 +1,6 @@
 use Rattle.std.proofs.Common.{◌≡◌, ◌++◌, drop}
-use Rattle.sd_directory.specs.Entries.{service_group_dns}
-use Rattle.sd_directory.proofs.entries.service_group_dns.Given as goal
+use Rattle.sd_layout.specs.Entries.{service_group_dns}
+use Rattle.sd_layout.proofs.entries.service_group_dns.Given as goal
 
 -- those so far, and those left
 abbrev pub invariant-loop-name : goal.invariant-loop-name

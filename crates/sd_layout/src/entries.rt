@@ -1,7 +1,7 @@
 //! The entries that lines put.
 ghost use Rattle.std.specs.Prelude.{◌≡◌, ◌++◌, [], ◌∷◌, IfOk, OnOk, codes};
 ghost use Rattle.std.specs.Fmt.{decimal};
-ghost use Rattle.sd_directory.specs.Entries as entries;
+ghost use Rattle.sd_layout.specs.Entries as entries;
 
 use crate::names::{
     group_dn, host_dn, host_group_dn, joined, service_dn, service_group_dn, user_dn,

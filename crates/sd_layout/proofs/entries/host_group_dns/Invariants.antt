@@ -1,6 +1,6 @@
 use Rattle.std.proofs.Common.{◌≡◌, ◌++◌, drop}
-use Rattle.sd_directory.specs.Entries.{host_group_dns}
-use Rattle.sd_directory.proofs.entries.host_group_dns.Given as goal
+use Rattle.sd_layout.specs.Entries.{host_group_dns}
+use Rattle.sd_layout.proofs.entries.host_group_dns.Given as goal
 
 -- those so far, and those left
 abbrev pub invariant-loop-name : goal.invariant-loop-name

@@ -1,6 +1,6 @@
 use Rattle.std.proofs.Common.{◌≡◌, ◌++◌, drop}
-use Rattle.sd_directory.specs.Entries.{member_dns}
-use Rattle.sd_directory.proofs.entries.member_dns.Given as goal
+use Rattle.sd_layout.specs.Entries.{member_dns}
+use Rattle.sd_layout.proofs.entries.member_dns.Given as goal
 
 -- those so far, and those left
 abbrev pub invariant-loop-member : goal.invariant-loop-member
