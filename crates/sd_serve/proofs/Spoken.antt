@@ -2,7 +2,7 @@
 use Rattle.std.proofs.Common.{◌≡◌, ◌≢◌, ℕ, Bool, true, false, cond, List, [], ◌∷◌, Option, Some, None, refl, subst}
 use Rattle.std.specs.Prelude.{codes, is_some}
 use Rattle.sd_ldap_server.specs.Addresses.{is_address}
-use Rattle.sd_load.specs.Words.{requests_of}
+use Rattle.sd_storm.specs.Words.{requests_of}
 use Rattle.sd_netgroup.specs.Words.{question_of}
 use Rattle.sd_rules.specs.Keys.{same_name}
 use Rattle.sd_idmap.specs.Endings.{is_idmap}

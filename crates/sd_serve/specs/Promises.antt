@@ -20,7 +20,7 @@ use Rattle.sd_netgroup.specs.Words.{question_of}
 use Rattle.sd_scenario.specs.Endings as ends
 use Rattle.sd_scenario.specs.Transcript as script
 use Rattle.sd_scenario.specs.declared.endings.TheConstants.{LIMIT, JOURNAL_FULL}
-use Rattle.sd_load.specs.Lines.{storm_lines}
+use Rattle.sd_storm.specs.Lines.{storm_lines}
 use Rattle.sd_storm.specs.Endings as storms
 use Rattle.sd_sudo.specs.Endings as rules
 use Rattle.sd_sudo.specs.Words.{user_asked}

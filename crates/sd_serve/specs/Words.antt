@@ -1,7 +1,7 @@
 -- Which words ask for what.
 use Rattle.std.specs.Prelude.{◌≡◌, ◌≢◌, ◌≤◌, ℕ, Bool, true, false, codes, List, [], ◌∷◌, Option, Some, None, if◌then◌else◌}
 use Rattle.sd_ldap_server.specs.Addresses.{is_address}
-use Rattle.sd_load.specs.Words as loads
+use Rattle.sd_storm.specs.Words as loads
 use Rattle.sd_rules.specs.Keys.{same_name}
 use Rattle.sd_tools.specs.Options.{requests_of}
 use Rattle.sd_tools.specs.Queries.{query_of}

@@ -5,7 +5,7 @@ ghost use Rattle.sd_base.specs.Causes.{Rose};
 ghost use Rattle.sd_serve.specs.Outsides.{IsDialledTwice, LinksFirst, LinksOften};
 ghost use Rattle.sd_serve.specs.Promises.{Asks, Directories, IsWithin, Loads, Nets, Numbers, Plays, Prints, Rules, Serves, Voids};
 ghost use Rattle.sd_serve.specs.Words.{behind_operand, first_of, has_second, HasNoForm, IsStatus, is_stop, kind_of, NeedsNoHost, operand_of, ReadsInput};
-ghost use Rattle.sd_load.specs.Words.{requests_of};
+ghost use Rattle.sd_storm.specs.Words.{requests_of};
 ghost use Rattle.sd_tools.specs.Endings as endings;
 
 use crate::directories::directory_at;

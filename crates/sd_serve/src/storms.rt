@@ -1,15 +1,14 @@
 // The word `storm`.
 ghost use Rattle.std.specs.Prelude.{◌≡◌, ◌≢◌, map, string_bytes};
 ghost use Rattle.sd_base.specs.Causes.{Rose};
-ghost use Rattle.sd_load.specs.Words.{requests_of};
+ghost use Rattle.sd_storm.specs.Words.{requests_of};
 ghost use Rattle.sd_serve.specs.Promises.{Loads};
 ghost use Rattle.sd_serve.specs.Words.{kind_of, operand_of};
 
 use crate::words::{Kind, operand_of};
 use sd_base::Sink;
 use sd_clock::Gate;
-use sd_load::requests_of;
-use sd_storm::storm;
+use sd_storm::{requests_of, storm};
 use sd_tools::{NO_MEMORY, Status, USAGE, WRITE_FAULT};
 use std::alloc::Global;
 use std::sync::Wait;

@@ -3,7 +3,7 @@ ghost use Rattle.std.specs.Prelude.{◌≡◌, is_some, map, string_bytes};
 ghost use Rattle.sd_serve.specs.Words as forms;
 
 use sd_ldap_server::is_address;
-use sd_load::requests_of;
+use sd_storm::requests_of;
 
 /// What words ask for.
 #[derive(Clone, Copy, PartialEq, Eq)]

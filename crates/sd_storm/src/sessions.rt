@@ -2,6 +2,7 @@
 ghost use Rattle.std.specs.Prelude.{◌≡◌};
 ghost use Rattle.sd_desk.specs.Desks.{IsOwn, HoldsNoTurn};
 
+use crate::account::Account;
 use crate::desks::{close_desk, default_config, open_desk};
 use crate::inputs::inputs_of;
 use crate::replies::Replies;
@@ -11,7 +12,6 @@ use sd_base::Memory;
 use sd_clock::Gate;
 use sd_conf::Config;
 use sd_desk::{Desk, DeskSeat};
-use sd_load::Account;
 use sd_stub::Directory;
 use std::alloc::Global;
 use std::sync::Wait;

@@ -3,13 +3,15 @@ ghost use Rattle.std.specs.Prelude.{◌≡◌, ◌≢◌, IfOk};
 ghost use Rattle.std.specs.Io.KnownBytes.{Appends};
 ghost use Rattle.sd_base.specs.Causes.{Rose};
 ghost use Rattle.sd_base.specs.Written.{AppendsFront};
-ghost use Rattle.sd_load.specs.Lines.{storm_lines};
 ghost use Rattle.sd_storm.specs.Endings.{IsStatus};
+ghost use Rattle.sd_storm.specs.Lines.{storm_lines};
 
+use crate::account::account_of;
+use crate::asked::users_asked;
+use crate::lines::lines_of;
 use crate::sessions::asked_at_once;
 use sd_base::{Memory, Sink};
 use sd_clock::Gate;
-use sd_load::{account_of, lines_of, users_asked};
 use sd_tools::endings::end;
 use sd_tools::{DONE, NO_MEMORY, Status, WRITE_FAULT};
 use std::alloc::Global;
@@ -17,7 +19,7 @@ use std::sync::Wait;
 use std::thread::Threads;
 
 /// What is printed once the sessions have ended. Where memory is not wanting they come to what the load says.
-#[tactic(auto, unfolding(sd_load::specs::Lines::storm_lines))]
+#[tactic(auto, unfolding(crate::specs::Lines::storm_lines))]
 fn output_of<R, G>(rt: &R, alloc: Global, requests: u32, gate: &G) -> Result<Vec<u8>, Memory>
 where
     R: Threads + Wait + Sync,

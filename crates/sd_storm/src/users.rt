@@ -6,8 +6,8 @@ use sd_stub::Directory;
 use sd_wire::fields::push_numbered;
 use std::alloc::Global;
 
-/// How many users the directory has.
-const KNOWN: u32 = 150;
+/// The directory has the users of the numbers below this.
+pub const KNOWN: u32 = 150;
 
 /// The number of the first user.
 const FIRST_UID: u32 = 1000;

@@ -1,6 +1,6 @@
 use Rattle.std.proofs.Common.{List, ℕ, map, sym, ap, ◌∙◌}
 use Rattle.std.specs.Prelude.{string_bytes}
-use Rattle.sd_load.specs.Words.{requests_of}
+use Rattle.sd_storm.specs.Words.{requests_of}
 use Rattle.sd_serve.specs.Words.{operand_of}
 use Rattle.sd_serve.proofs.Spoken.{has_number, none_is_not}
 use Rattle.sd_serve.proofs.storms.storm_by.Goals as goal

@@ -1,6 +1,6 @@
 //! The users that are asked for.
 ghost use Rattle.std.specs.Prelude.{◌≡◌, IfOk};
-ghost use Rattle.sd_load.specs.Asked as asked;
+ghost use Rattle.sd_storm.specs.Asked as asked;
 
 use sd_base::Memory;
 use std::alloc::Global;

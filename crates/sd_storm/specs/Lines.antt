@@ -1,7 +1,7 @@
 -- What is printed of a load.
 use Rattle.std.specs.Prelude.{ℕ, ◌++◌, List, codes}
-use Rattle.sd_load.specs.Asked.{users_asked, account_of}
-use Rattle.sd_load.specs.declared.account.Account.{Account}
+use Rattle.sd_storm.specs.Asked.{users_asked, account_of}
+use Rattle.sd_storm.specs.declared.account.Account.{Account}
 use Rattle.sd_wire.specs.Forms.{numbered}
 
 -- a word, with the space behind it, a number, and the end of the line

@@ -1,6 +1,6 @@
 //! How many requests a word asks for.
 ghost use Rattle.std.specs.Prelude.{◌≡◌};
-ghost use Rattle.sd_load.specs.Words as words;
+ghost use Rattle.sd_storm.specs.Words as words;
 
 use sd_pieces::number_up_to;
 

@@ -1,7 +1,7 @@
 -- The users that a load asks for, and what the answers come to.
 use Rattle.std.specs.Prelude.{ℕ, zero, suc, ◌+◌, ◌*◌, ◌/◌, ◌%◌, Bool, not, ◌==◌, nat_lt, List, [], ◌∷◌, count_by}
 use Rattle.std.specs.List.{list_any, range_with_len}
-use Rattle.sd_load.specs.declared.account.Account.{Account}
+use Rattle.sd_storm.specs.declared.account.Account.{Account}
 
 -- the state behind a state, of a linear congruential generator
 abbrev pub next_state : ℕ → ℕ

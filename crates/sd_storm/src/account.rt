@@ -1,12 +1,10 @@
 //! What the sessions come to.
 ghost use Rattle.std.specs.Prelude.{◌≡◌, count_by, nat_lt, not};
 ghost use Rattle.std.specs.List.{range_with_len};
-ghost use Rattle.sd_load.specs.Asked as asked;
+ghost use Rattle.sd_storm.specs.Asked as asked;
 
 use crate::asked::USERS;
-
-/// The directory has the users of the numbers below this.
-const KNOWN: u32 = 150;
+use crate::users::KNOWN;
 
 /// What the answers to a load come to.
 #[derive(Clone, Copy, PartialEq, Eq)]

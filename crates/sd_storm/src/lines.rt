@@ -1,6 +1,6 @@
 //! What is printed.
 ghost use Rattle.std.specs.Prelude.{◌≡◌, ◌++◌, IfOk, OnOk};
-ghost use Rattle.sd_load.specs.Lines as lines;
+ghost use Rattle.sd_storm.specs.Lines as lines;
 
 use crate::account::Account;
 use sd_base::Memory;

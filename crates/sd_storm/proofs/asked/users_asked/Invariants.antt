@@ -1,6 +1,6 @@
 use Rattle.std.proofs.Common.{◌≡◌, ◌++◌, ◌-◌}
-use Rattle.sd_load.specs.Asked.{asked_behind, users_asked}
-use Rattle.sd_load.proofs.asked.users_asked.Given as goal
+use Rattle.sd_storm.specs.Asked.{asked_behind, users_asked}
+use Rattle.sd_storm.proofs.asked.users_asked.Given as goal
 
 -- what was asked, and what is left to ask
 abbrev pub invariant-loop-request : goal.invariant-loop-request

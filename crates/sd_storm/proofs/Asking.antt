@@ -1,6 +1,6 @@
 -- The users that are asked for, request by request.
 use Rattle.std.proofs.Common.{arith, ◌≡◌, ◌<◌, ◌+◌, ◌-◌, ℕ, zero, suc, List, [], ◌∷◌, ◌++◌, refl, ap, sym, ◌∙◌, append_assoc}
-use Rattle.sd_load.specs.Asked.{asked_behind, next_state, user_in}
+use Rattle.sd_storm.specs.Asked.{asked_behind, next_state, user_in}
 
 -- where requests are left, the next of them is the first of those
 asked_more : (state n : ℕ) → 0 < n → asked_behind state n ≡ user_in (next_state state) ∷ asked_behind (next_state state) (n - 1)

@@ -1,6 +1,6 @@
 use Rattle.std.proofs.Common.{rules, ◌∙◌}
-use Rattle.sd_load.proofs.Asking.{asked_step}
-use Rattle.sd_load.proofs.asked.users_asked.Goals as goal
+use Rattle.sd_storm.proofs.Asking.{asked_step}
+use Rattle.sd_storm.proofs.asked.users_asked.Goals as goal
 
 pub loop-request-preserved : goal.loop-request-preserved
 loop-request-preserved c =
