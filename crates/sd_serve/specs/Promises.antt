@@ -5,9 +5,6 @@ use Rattle.std.specs.Io.KnownBytes.{Appends}
 use Rattle.sd_base.specs.Causes.{Rose}
 use Rattle.sd_base.specs.Written.{AppendsFront}
 use Rattle.sd_conf.specs.declared.ConfFault.{ConfFault}
-use Rattle.sd_daemon.specs.Refusals as refusals
-use Rattle.sd_daemon.specs.Stores as stores
-use Rattle.sd_daemon.specs.declared.beginning.TheConstants.{BAD_STORE, DOOR_FAULT, REFUSED, STORE_FAULT}
 use Rattle.sd_idmap.specs.Endings as ids
 use Rattle.sd_idmap.specs.Lines as id_lines
 use Rattle.sd_idmap.specs.Transcript as id_script
@@ -20,6 +17,9 @@ use Rattle.sd_netgroup.specs.Words.{question_of}
 use Rattle.sd_scenario.specs.Endings as ends
 use Rattle.sd_scenario.specs.Transcript as script
 use Rattle.sd_scenario.specs.declared.endings.TheConstants.{LIMIT, JOURNAL_FULL}
+use Rattle.sd_server.specs.HostStores as stores
+use Rattle.sd_server.specs.Refusals as refusals
+use Rattle.sd_server.specs.declared.beginning.TheConstants.{BAD_STORE, DOOR_FAULT, REFUSED, STORE_FAULT}
 use Rattle.sd_storm.specs.Lines.{storm_lines}
 use Rattle.sd_storm.specs.Endings as storms
 use Rattle.sd_sudo.specs.Endings as rules

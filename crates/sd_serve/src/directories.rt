@@ -4,9 +4,9 @@ ghost use Rattle.sd_base.specs.Causes.{Rose};
 ghost use Rattle.sd_serve.specs.Promises.{Directories};
 
 use sd_base::{Sink, SourceFailed};
-use sd_daemon::Host;
 use sd_doors::Doors;
 use sd_ldap_server::{Network, directory};
+use sd_server::Host;
 use sd_tools::{NO_MEMORY, READ_FAULT, Status, WRITE_FAULT};
 use std::alloc::Global;
 use std::sync::Wait;

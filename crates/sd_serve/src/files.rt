@@ -3,7 +3,7 @@ ghost use Rattle.std.specs.Prelude.{◌≡◌, ◌≤◌, IfOk, OnErr};
 ghost use Rattle.sd_base.specs.Causes.{Rose};
 
 use sd_base::SourceFailed;
-use sd_daemon::Host;
+use sd_server::Host;
 
 /// The files at two paths, each at its beginning.
 pub fn open_both<H: Host>(

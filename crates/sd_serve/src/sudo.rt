@@ -7,7 +7,7 @@ ghost use Rattle.sd_serve.specs.Words.{kind_of};
 use crate::files::{close_both, open_both};
 use crate::words::Kind;
 use sd_base::Sink;
-use sd_daemon::Host;
+use sd_server::Host;
 use sd_sudo::sudo_tool;
 use sd_tools::{NO_MEMORY, READ_FAULT, Status, USAGE, WRITE_FAULT};
 use std::alloc::Global;

@@ -1,7 +1,7 @@
 //! Why serving did not begin, and what is written of it.
 ghost use Rattle.std.specs.Prelude.{◌≡◌, ◌++◌, IfOk, OnOk};
-ghost use Rattle.sd_daemon.specs.Refusals as refusals;
-ghost use Rattle.sd_daemon.specs.Stores.{bad_store};
+ghost use Rattle.sd_server.specs.Refusals as refusals;
+ghost use Rattle.sd_server.specs.HostStores.{bad_store};
 
 use sd_base::Memory;
 use sd_conf::ConfFault;

@@ -2,11 +2,11 @@
 use Rattle.std.proofs.Common.{◌≡◌, refl, ◌⊎◌, ◌<◌, ◌≤◌, inl, inr, ℕ, Bool, true, false, List, Option, Some, None, ap, sym, subst, ◌∙◌, arith, Result, Ok, Err}
 use Rattle.std.specs.Prelude.{◌≢◌, is_some, IfOk, IfSome}
 use Rattle.sd_base.specs.Causes.{Rose}
-use Rattle.sd_daemon.specs.Counting.{Tells}
-use Rattle.sd_daemon.specs.Stores.{is_done, AreReached, Begins, BeginsBy, Fails, HoldsJournal, IsConfig, IsNoStore, IsReady, IsStore, SaysOfStore, Stored, TakesBack, TellsOpening}
-use Rattle.sd_daemon.specs.Refusals.{IsBehindConfig, IsNoneOfConfig, IsOfConfig}
-use Rattle.sd_daemon.specs.declared.refusals.Stop.{Stop}
-use Rattle.sd_daemon.specs.declared.refusals.Stop.TheVariants as stops
+use Rattle.sd_server.specs.Counting.{Tells}
+use Rattle.sd_server.specs.HostStores.{is_done, AreReached, Begins, BeginsBy, Fails, HoldsJournal, IsConfig, IsNoStore, IsReady, IsStore, SaysOfStore, Stored, TakesBack, TellsOpening}
+use Rattle.sd_server.specs.Refusals.{IsBehindConfig, IsNoneOfConfig, IsOfConfig}
+use Rattle.sd_server.specs.declared.refusals.Stop.{Stop}
+use Rattle.sd_server.specs.declared.refusals.Stop.TheVariants as stops
 use Rattle.sd_conf.specs.declared.config.Config.{Config}
 use Rattle.sd_rules.specs.declared.settings.Settings.{Settings}
 use Rattle.sd_keeper.specs.Blobs.{blobs_of}

@@ -3,9 +3,6 @@ use Rattle.std.specs.Prelude.{◌≡◌, ◌⊎◌, ◌++◌, ℕ, ◌≤◌, Bo
 use Rattle.sd_base.specs.Causes.{Rose}
 use Rattle.sd_conf.specs.Config.{conf_of}
 use Rattle.sd_conf.specs.declared.config.Config.{Config}
-use Rattle.sd_daemon.specs.Counting.{Counts}
-use Rattle.sd_daemon.specs.declared.refusals.Stop.{Stop}
-use Rattle.sd_daemon.specs.declared.refusals.Stop.TheVariants as stops
 use Rattle.sd_keeper.specs.Blobs.{Loads, blobs_of}
 use Rattle.sd_keeper.specs.Keeping.{has_failed}
 use Rattle.sd_keeper.specs.declared.keeper.KeeperFault.{KeeperFault}
@@ -15,6 +12,9 @@ use Rattle.sd_rules.specs.Reaching.{Reaches}
 use Rattle.sd_rules.specs.Steps.{Daemon}
 use Rattle.sd_rules.specs.declared.events.Row.{Row}
 use Rattle.sd_rules.specs.declared.settings.Settings.{Settings}
+use Rattle.sd_server.specs.Counting.{Counts}
+use Rattle.sd_server.specs.declared.refusals.Stop.{Stop}
+use Rattle.sd_server.specs.declared.refusals.Stop.TheVariants as stops
 use Rattle.sd_server.specs.Stores.{failed_by, told_by}
 use Rattle.sd_server.specs.declared.serving.ServeEnd.{ServeEnd}
 use Rattle.sd_server.specs.declared.serving.ServeEnd.TheVariants as ends

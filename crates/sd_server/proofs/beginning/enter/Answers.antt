@@ -1,6 +1,6 @@
 use Rattle.std.specs.Prelude.{is_some}
-use Rattle.sd_daemon.proofs.Held.{opening_back}
-use Rattle.sd_daemon.proofs.beginning.enter.Goals as goal
+use Rattle.sd_server.proofs.Held.{opening_back}
+use Rattle.sd_server.proofs.beginning.enter.Goals as goal
 
 pub returns-in-Err-clause-opening : goal.returns-in-Err-clause-opening
 returns-in-Err-clause-opening g c =

@@ -1,8 +1,8 @@
 //! What the daemon tells its operator.
 use crate::refusals::Stop;
+use crate::serving::ServeEnd;
 use sd_conf::ConfFault;
 use sd_keeper::KeeperFault;
-use sd_server::ServeEnd;
 use std::fmt;
 use std::fmt::Display;
 

@@ -3,8 +3,8 @@ use Rattle.std.specs.Prelude.{◌≡◌, ◌⊎◌, ◌<◌, ◌≤◌, ◌++◌
 use Rattle.sd_conf.specs.Config.{conf_of, Answers}
 use Rattle.sd_conf.specs.declared.ConfFault.{ConfFault}
 use Rattle.sd_conf.specs.declared.ConfFault.TheVariants as faults
-use Rattle.sd_daemon.specs.declared.refusals.Stop.{Stop}
-use Rattle.sd_daemon.specs.declared.refusals.Stop.TheVariants as stops
+use Rattle.sd_server.specs.declared.refusals.Stop.{Stop}
+use Rattle.sd_server.specs.declared.refusals.Stop.TheVariants as stops
 use Rattle.sd_wire.specs.Forms.{numbered}
 
 -- the most bytes that a configuration has: 1 MiB

@@ -1,8 +1,8 @@
 use Rattle.std.proofs.Common.{◌≡◌, Bool, ℕ, refl, ap, sym, inl, ◌∙◌}
-use Rattle.sd_daemon.specs.Stores.{Stored}
-use Rattle.sd_daemon.proofs.Held.{fails_later, given_fails, journal_held, old_or_journal, store_begun}
+use Rattle.sd_server.specs.HostStores.{Stored}
+use Rattle.sd_server.proofs.Held.{fails_later, given_fails, journal_held, old_or_journal, store_begun}
 use Rattle.sd_server.specs.Stores.{told_by}
-use Rattle.sd_daemon.proofs.serving.serve.Goals as goal
+use Rattle.sd_server.proofs.command.serve.Goals as goal
 
 pub returns-in-Ok-clause-stored : goal.returns-in-Ok-clause-stored
 returns-in-Ok-clause-stored g c = λ done given.

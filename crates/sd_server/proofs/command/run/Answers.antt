@@ -1,10 +1,10 @@
 use Rattle.std.proofs.Common.{◌≡◌, List, Option, ℕ, Bool, true, ap, sym, subst, ◌∙◌}
 use Rattle.std.specs.Prelude.{is_some}
 use Rattle.sd_base.specs.Causes.{Rose}
-use Rattle.sd_daemon.specs.Stores.{Stored}
-use Rattle.sd_daemon.proofs.Held.{done_stored, done_told, failed_back, fails_back, fails_between, none_back, told_back}
+use Rattle.sd_server.specs.HostStores.{Stored}
+use Rattle.sd_server.proofs.Held.{done_stored, done_told, failed_back, fails_back, fails_between, none_back, told_back}
 use Rattle.sd_server.specs.Stores.{faults_by, told_by, HoldsOldOrReached, HoldsReached}
-use Rattle.sd_daemon.proofs.serving.run.Goals as goal
+use Rattle.sd_server.proofs.command.run.Goals as goal
 
 pub returns-clause-held : goal.returns-clause-held
 returns-clause-held g c = λ there.

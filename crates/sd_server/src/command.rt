@@ -3,20 +3,22 @@ ghost use Rattle.std.specs.Prelude.{◌≡◌, ◌⊎◌, ◌≤◌, ℕ, true, 
 ghost use Rattle.std.specs.Io.KnownBytes.{Appends};
 ghost use Rattle.sd_base.specs.Causes.{Rose};
 ghost use Rattle.sd_conf.specs.declared.ConfFault.{ConfFault as ConfFaultValue};
-ghost use Rattle.sd_daemon.specs.Refusals as refusals;
-ghost use Rattle.sd_daemon.specs.Stores.{bad_store, is_done, Fails, HoldsJournal, IsFailingStatus, IsNoStore, IsServedStatus, IsStore};
+ghost use Rattle.sd_server.specs.Refusals as refusals;
+ghost use Rattle.sd_server.specs.HostStores.{bad_store, is_done, Fails, HoldsJournal, IsFailingStatus, IsNoStore, IsServedStatus, IsStore};
 ghost use Rattle.sd_server.specs.Ends.{TellsFailure};
 ghost use Rattle.sd_server.specs.Stores.{told_by, HoldsOldOrReached, HoldsReached};
 
 use crate::beginning::{BAD_STORE, Begun, DOOR_FAULT, REFUSED, STORE_FAULT, begin, tell};
+use crate::daemon::serve_core;
 use crate::host::Host;
 use crate::notices::Notice;
-use crate::storing::give_back;
+use crate::opening::give_back;
+use crate::serving::ServeEnd;
+use crate::visit::Equipment;
 use sd_base::Sink;
 use sd_dial::Dialer;
 use sd_doors::Doors;
 use sd_keeper::KeeperFault;
-use sd_server::{Equipment, ServeEnd, serve_core};
 use sd_tools::endings::end;
 use sd_tools::{DONE, NO_MEMORY, READ_FAULT, Status, TOO_LONG, WRITE_FAULT};
 use std::alloc::Global;

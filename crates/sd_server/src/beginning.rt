@@ -4,12 +4,12 @@ ghost use Rattle.std.specs.Io.KnownBytes.{Appends};
 ghost use Rattle.sd_base.specs.Causes.{Rose};
 ghost use Rattle.sd_conf.specs.Config.{conf_of, Answers};
 ghost use Rattle.sd_conf.specs.declared.ConfFault.{ConfFault as ConfFaultValue};
-ghost use Rattle.sd_daemon.specs.Refusals as refusals;
-ghost use Rattle.sd_daemon.specs.Stores.{bad_store, is_store_fault, Begins, BeginsBy, IsConfig, IsFailingStatus, IsNoStore, IsReady, IsStore, TakesBack, TellsOpening};
+ghost use Rattle.sd_server.specs.Refusals as refusals;
+ghost use Rattle.sd_server.specs.HostStores.{bad_store, is_store_fault, Begins, BeginsBy, IsConfig, IsFailingStatus, IsNoStore, IsReady, IsStore, TakesBack, TellsOpening};
 
 use crate::host::Host;
+use crate::opening::{give_back, open_store};
 use crate::refusals::{Stop, bad_store_text, refused_text};
-use crate::storing::{give_back, open_store};
 use sd_base::{Memory, ReadEnd, Sink, SourceFailed, read_all};
 use sd_conf::{ConfFault, Config, read_conf};
 use sd_core::Core;

@@ -2,14 +2,14 @@
 ghost use Rattle.std.specs.Prelude.{◌≡◌, ◌≤◌, ◌<◌, ℕ, List, Bool, IfOk, OnErr, OnOk};
 ghost use Rattle.std.specs.declared.option.Option.{Option};
 ghost use Rattle.sd_base.specs.Causes.{Rose};
-ghost use Rattle.sd_daemon.specs.Counting.{Counts, Tells};
-ghost use Rattle.sd_daemon.specs.Stores.{IsUnused, Stored, TakesKeeper, TellsMaking};
+ghost use Rattle.sd_server.specs.Counting.{Counts, Tells};
+ghost use Rattle.sd_server.specs.HostStores.{IsUnused, Stored, TakesKeeper, TellsMaking};
 
 use crate::notices::Notice;
+use crate::visit::Equipment;
 use sd_base::{Source, SourceFailed};
 use sd_doors::{DoorFailed, Doors};
 use sd_keeper::{Keeper, KeeperFault};
-use sd_server::Equipment;
 
 /// Where the daemon's configuration, its seed, its kept rows and its clients come from. It counts the faults of each kind.
 pub trait Host {

@@ -1,10 +1,11 @@
 //! The store before serving: its keeper, and the core that begins with its rows.
 ghost use Rattle.std.specs.Prelude.{◌≡◌, ◌≤◌, [], true, false, is_some, IfErr, IfOk, IfSome, None, OnOk};
 ghost use Rattle.sd_base.specs.Causes.{Rose};
-ghost use Rattle.sd_daemon.specs.Stores.{is_store_fault, BeginsBy, IsReady, SaysOfRows, SaysOfStore, TakesBack, TellsOpening};
 ghost use Rattle.sd_rules.specs.KeptRows as kept;
 ghost use Rattle.sd_server.specs.Ends.{is_servable};
+ghost use Rattle.sd_server.specs.HostStores.{is_store_fault, BeginsBy, IsReady, SaysOfRows, SaysOfStore, TakesBack, TellsOpening};
 
+use crate::daemon::open_core;
 use crate::host::Host;
 use crate::refusals::Stop;
 use sd_conf::Config;
@@ -12,7 +13,6 @@ use sd_core::{Core, OpenFault};
 use sd_creds::Salts;
 use sd_keeper::{Keeper, KeeperFault, LoadFault, load};
 use sd_rules::Rows;
-use sd_server::open_core;
 use std::alloc::Global;
 
 /// A core with these rows, by the settings of a configuration.
