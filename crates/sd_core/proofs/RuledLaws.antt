@@ -13,7 +13,7 @@ use Rattle.sd_rules.specs.Access.{Asker, granting_rule, reply_by_rule, reply_by_
 use Rattle.sd_rules.specs.Needed.{needed}
 use Rattle.sd_rules.specs.Past.{Standing, answer_by, answer_in, spoken, newest, or_else}
 use Rattle.sd_rules.specs.TextBytes.{bytes_of_answered, text_bytes}
-use Rattle.sd_hbac_sets.specs.Compiled.{granted}
+use Rattle.sd_hbac.specs.Compiled.{granted}
 use Rattle.sd_forgetting.specs.Orderly.{IsOrderly}
 use Rattle.sd_forgetting.proofs.Forgets.{needed_kept}
 use Rattle.sd_past.specs.Closing.{closes_place}

@@ -11,7 +11,7 @@ use Rattle.sd_rules.specs.declared.replies.Reply.{Reply}
 use Rattle.sd_rules.specs.declared.replies.Reply.TheVariants.{Denied}
 use Rattle.sd_rules.specs.Access.{Asker, reply_by_rule, reply_by_rules}
 use Rattle.sd_rules.specs.Past.{Standing, newest}
-use Rattle.sd_hbac_sets.specs.Compiled.{granted, Compiles}
+use Rattle.sd_hbac.specs.Compiled.{granted, Compiles}
 use Rattle.sd_core.specs.declared.rulings.Numbered.{Numbered}
 
 -- the rules that were answered

@@ -13,8 +13,7 @@ ghost use Rattle.sd_core.specs.Bounds.{bytes_of_standing};
 ghost use Rattle.sd_core.specs.Ruled as ruled;
 
 use sd_base::Memory;
-use sd_hbac::allowed;
-use sd_hbac_sets::Sets;
+use sd_hbac::{Sets, allowed};
 use sd_journal::keys::speaks_of;
 use sd_journal::past::{Standing, answer_in};
 use sd_past::Past;

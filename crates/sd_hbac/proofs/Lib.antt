@@ -1,3 +1,6 @@
 mod Matching
 mod Order
 pub mod Least
+pub mod Lowering
+pub mod Marking
+pub mod Compiling

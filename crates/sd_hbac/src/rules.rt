@@ -35,7 +35,8 @@ fn element_matches(element: &Element, name: &Text, groups: &Texts) -> bool
     element.all || holds_letters(&element.names, name) || shares_letters(groups, &element.groups)
 }
 
-fn comes_before(a: &Text, b: &Text) -> bool
+/// Whether one name comes before another in byte order.
+pub fn comes_before(a: &Text, b: &Text) -> bool
     ensures { result ≡ access.comes_before a.now b.now }
 {
     a.bytes() < b.bytes()
