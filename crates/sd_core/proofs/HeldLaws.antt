@@ -14,7 +14,7 @@ use Rattle.sd_rules.specs.Steps.{Daemon, recorded}
 use Rattle.sd_rules.specs.TextBytes.{bytes_of_event, bytes_of_row, text_bytes}
 use Rattle.sd_keeping.specs.Counts.{HasCounts}
 use Rattle.sd_index.specs.Entries.{numbers_fall, falls}
-use Rattle.sd_rows.specs.Kept.{Keeps}
+use Rattle.sd_past.specs.Kept.{Keeps}
 use Rattle.sd_forgetting.specs.Kept.{has_stop}
 use Rattle.sd_forgetting.proofs.Forgets.{needed_kept}
 use Rattle.sd_core.specs.Held.{daemon_of, IsHeld}

@@ -6,7 +6,7 @@ use Rattle.sd_rules.specs.declared.replies.Entry.{Entry}
 use Rattle.sd_rules.specs.KeptRows.{rows_of}
 use Rattle.sd_keeping.specs.Opening.{daemon}
 use Rattle.sd_keeping.specs.Opening as opening
-use Rattle.sd_rows.specs.Kept.{Keeps}
+use Rattle.sd_past.specs.Kept.{Keeps}
 
 pub kept_of_list : {M : Type 0} (r : Result (List Row) M) (next floor : ℕ) (es items past : List Entry) → es ≡ items → reverse items ≡ past
     → IfOk r (opening.Keeps next floor es) → IfOk r (λ rows. Keeps next floor past rows)

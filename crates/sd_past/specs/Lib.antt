@@ -1,3 +1,5 @@
 pub mod Closing
 pub mod Standings
 pub mod Forgetting
+pub mod Kept
+pub mod Found

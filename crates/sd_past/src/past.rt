@@ -15,7 +15,7 @@ ghost use Rattle.sd_index.specs.Entries.{falls, numbers_fall};
 ghost use Rattle.sd_index.specs.Table.{takes_none};
 ghost use Rattle.sd_past.specs.Closing.{closes_place};
 ghost use Rattle.sd_past.specs.Forgetting.{AreForgotten};
-ghost use Rattle.sd_rows.specs.Kept.{Keeps};
+ghost use Rattle.sd_past.specs.Kept.{Keeps};
 
 use sd_base::{Memory, Shared};
 use sd_journal::past::Standing;

@@ -2,7 +2,7 @@ use Rattle.std.proofs.Common.{◌≡◌, ◌++◌, ◌∷◌, [], List, ap, reve
 use Rattle.std.proofs.lemmas.Grind.{common_steps}
 use Rattle.std.proofs.lemmas.List.{reverse-append, reverse-reverse}
 use Rattle.sd_rules.specs.KeptRows as kept
-use Rattle.sd_rows.proofs.rows.rows_behind.Goals as goal
+use Rattle.sd_past.proofs.rows.rows_behind.Goals as goal
 
 behind_head : {X : Type 0} → (xs : List X) (h : X) → reverse (xs ++ h ∷ []) ≡ h ∷ reverse xs
 behind_head xs h = reverse-append xs (h ∷ [])

@@ -1,6 +1,6 @@
 use Rattle.std.proofs.Common.{reverse, take}
 use Rattle.sd_index.specs.Voids.{HoldsVoids}
-use Rattle.sd_rows.proofs.voided.voids_of.Given as goal
+use Rattle.sd_past.proofs.voided.voids_of.Given as goal
 
 -- those of the entries before this place
 abbrev pub invariant-loop-place : goal.invariant-loop-place

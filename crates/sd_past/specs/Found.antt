@@ -2,7 +2,7 @@
 use Rattle.std.specs.Prelude.{List, reverse}
 use Rattle.sd_rules.specs.declared.replies.Entry.{Entry}
 use Rattle.sd_index.specs.Voids.{HoldsVoids}
-use Rattle.sd_rows.specs.declared.findings.Findings.{Findings}
+use Rattle.sd_past.specs.declared.findings.Findings.{Findings}
 use Rattle.sd_sieve.specs.Falls.{HoldFalls}
 use Rattle.sd_sieve.specs.Marks.{MarkNewest}
 use Rattle.sd_sieve.specs.Users.{HoldUsers}

@@ -1,6 +1,6 @@
 use Rattle.std.proofs.Common.{◌≡◌, ◌++◌, ◌∷◌, [], reverse, take}
 use Rattle.sd_rules.specs.KeptRows as kept
-use Rattle.sd_rows.proofs.rows.rows_behind.Given as goal
+use Rattle.sd_past.proofs.rows.rows_behind.Given as goal
 
 -- the rows of the entries so far, before them the head
 abbrev pub invariant-loop-place : goal.invariant-loop-place

@@ -1,6 +1,6 @@
 // What is found once of a whole journal, and asked for the row of each entry.
 ghost use Rattle.std.specs.Prelude.{◌≡◌, IfOk};
-ghost use Rattle.sd_rows.specs.Found as findings;
+ghost use Rattle.sd_past.specs.Found as findings;
 ghost use Rattle.sd_sieve.specs.Whole as held;
 
 use crate::voided::voids_of;

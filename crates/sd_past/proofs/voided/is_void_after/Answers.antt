@@ -1,7 +1,7 @@
 use Rattle.std.proofs.Common.{ℕ, nat_lt, ◌∙◌, ap}
 use Rattle.sd_journal.specs.Seen.{standing}
-use Rattle.sd_rows.proofs.VoidedLaws.{void_after_is}
-use Rattle.sd_rows.proofs.voided.is_void_after.Goals as goal
+use Rattle.sd_past.proofs.VoidedLaws.{void_after_is}
+use Rattle.sd_past.proofs.voided.is_void_after.Goals as goal
 
 pub returns : goal.returns
 returns c =

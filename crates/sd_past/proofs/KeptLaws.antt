@@ -6,7 +6,7 @@ use Rattle.sd_rules.specs.declared.events.Row.TheVariants.{Head}
 use Rattle.sd_rules.specs.declared.replies.Entry.{Entry}
 use Rattle.sd_rules.specs.KeptRows.{rows_among}
 use Rattle.sd_rules.specs.Steps.{number_after, moment_after}
-use Rattle.sd_rows.specs.Kept.{Keeps}
+use Rattle.sd_past.specs.Kept.{Keeps}
 
 pub kept_behind : {M : Type 0} (r : Result (List Row) M) (next floor n m : ℕ) (past : List Entry) → n ≡ number_after next past → m ≡ moment_after floor past 0
     → IfOk r (λ rows. rows ≡ Head 2 n m ∷ reverse (rows_among past past)) → IfOk r (λ rows. Keeps next floor past rows)

@@ -1,6 +1,6 @@
 use Rattle.std.proofs.Common.{reverse}
-use Rattle.sd_rows.proofs.RowLaws.{kept_behind}
-use Rattle.sd_rows.proofs.rows.rows_of.Goals as goal
+use Rattle.sd_past.proofs.KeptLaws.{kept_behind}
+use Rattle.sd_past.proofs.rows.rows_of.Goals as goal
 
 pub returns : goal.returns
 returns c =

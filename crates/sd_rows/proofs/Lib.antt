@@ -1,3 +1,0 @@
-pub mod VoidedLaws
-pub mod LoginLaws
-pub mod RowLaws
