@@ -1,1 +1,6 @@
+pub mod Faults
+pub mod Receiving
+pub mod Asking
+pub mod CourseLaws
+mod TaskLaws
 pub mod Serving

@@ -4,7 +4,7 @@ use Rattle.sd_rules.specs.declared.tasks.Need.{Need}
 use Rattle.sd_rules.specs.declared.tasks.Need.TheVariants as needs
 use Rattle.sd_rules.specs.Scripts.{is_saying}
 use Rattle.sd_conf.specs.declared.config.Config.{Config}
-use Rattle.sd_course.specs.Courses.{Client, need_of, client_told}
+use Rattle.sd_engine.specs.Courses.{Client, need_of, client_told}
 use Rattle.sd_engine.specs.declared.engine.Turn.{Turn}
 use Rattle.sd_engine.specs.Engines.{Engine}
 use Rattle.sd_engine.specs.Turns.{Dialling, GoesBy, ServesBy, IsOfKind}

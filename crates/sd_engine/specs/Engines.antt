@@ -5,7 +5,7 @@ use Rattle.sd_rules.specs.declared.keys.Key.TheVariants as keys
 use Rattle.sd_rules.specs.declared.replies.Given.{Given}
 use Rattle.sd_rules.specs.declared.settings.Settings.{Settings}
 use Rattle.sd_inbox.specs.Taking.{Unread}
-use Rattle.sd_course.specs.Courses.{Client, Course, lookup, login, check, order, client_replied}
+use Rattle.sd_engine.specs.Courses.{Client, Course, lookup, login, check, order, client_replied}
 use Rattle.sd_wire.specs.declared.requests.Request.{Request}
 use Rattle.sd_wire.specs.declared.requests.Request.TheVariants as requests
 use Rattle.sd_engine.specs.Leading.{leads_after, ticket_after}

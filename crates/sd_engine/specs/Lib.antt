@@ -1,5 +1,11 @@
 pub mod Answering
+pub mod Binds
+pub mod Counting
+pub mod Courses
 pub mod Engines
 pub mod Leading
 pub mod Listening
+pub mod Lookups
+pub mod Names
+pub mod Received
 pub mod Turns

@@ -22,12 +22,12 @@ use Rattle.sd_dial.specs.declared.dialer.Dialer as dialers
 use Rattle.sd_asking.specs.Binding.{told_bind, IsToldBind}
 use Rattle.sd_fetch.specs.Lookup.{looked_up}
 use Rattle.sd_fetch.specs.Told.{searches_of, first_failure}
-use Rattle.sd_inquiry.specs.Counting.{HasNotFallen}
-use Rattle.sd_inquiry.specs.Lookups.{AsksLookup, IsToldFetch}
-use Rattle.sd_inquiry.specs.Binds.{AsksBind}
+use Rattle.sd_engine.specs.Counting.{HasNotFallen}
+use Rattle.sd_engine.specs.Lookups.{AsksLookup, IsToldFetch}
+use Rattle.sd_engine.specs.Binds.{AsksBind}
 use Rattle.sd_inbox.specs.Taking.{Unread}
 use Rattle.sd_wire.specs.declared.requests.Request.{Request}
-use Rattle.sd_course.specs.Courses.{Client, need_of, script_at, client_told, client_fetched, client_bound}
+use Rattle.sd_engine.specs.Courses.{Client, need_of, script_at, client_told, client_fetched, client_bound}
 use Rattle.sd_engine.specs.declared.ending.SessionEnd.{SessionEnd}
 use Rattle.sd_engine.specs.declared.ending.SessionEnd.TheVariants as ends
 use Rattle.sd_engine.specs.declared.engine.Turn.{Turn}

@@ -2,7 +2,7 @@
 ghost use Rattle.std.specs.Prelude.{◌≡◌, true};
 ghost use Rattle.sd_engine.specs.Engines as engines;
 
-use sd_course::Client;
+use crate::client::Client;
 use sd_creds::Salts;
 use sd_rules::{Event, Key, Settings};
 use sd_wire::Request;

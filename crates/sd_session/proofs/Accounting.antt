@@ -13,8 +13,8 @@ use Rattle.sd_rules.specs.Steps.{Daemon, next_number, moment_of, after, entry_ma
 use Rattle.sd_rules.specs.Scripts.{event_of}
 use Rattle.sd_core.proofs.Room.{same_number}
 use Rattle.sd_forgetting.specs.Orderly.{IsOrderly, is_ask}
-use Rattle.sd_course.specs.Courses.{Client, need_of, client_replied}
-use Rattle.sd_course.specs.Names.{holds_order}
+use Rattle.sd_engine.specs.Courses.{Client, need_of, client_replied}
+use Rattle.sd_engine.specs.Names.{holds_order}
 use Rattle.sd_engine.specs.Leading.{about, opened, is_closing, place_in, without_place, without, with_one, leads_after, ticket_after}
 use Rattle.sd_session.specs.Holding.{lists, leads_of, attempt_of, waits_of, leads_in, attempt_in, waits_in, client_renews}
 use Rattle.sd_session.specs.Closing.{WasGiven, IsShut, HasLeft, IsNoRequest, IsNoAttempt, IsSorted, IsLed, IsHeld, AreLed, AreHeld, Accounts, GivesUp, NoneReserved}

@@ -2,7 +2,7 @@
 use Rattle.std.proofs.Common.{refl}
 use Rattle.sd_rules.specs.declared.settings.Settings.{Settings}
 use Rattle.sd_rules.specs.Steps.{Daemon}
-use Rattle.sd_course.proofs.CourseLaws.{login_names_nothing}
+use Rattle.sd_engine.proofs.CourseLaws.{login_names_nothing}
 use Rattle.sd_wire.specs.declared.requests.Request.{Request}
 use Rattle.sd_wire.specs.declared.requests.Request.TheVariants as requests
 use Rattle.sd_session.specs.Spoken.{IsSpoken}

@@ -9,8 +9,8 @@ use Rattle.sd_rules.specs.Steps.{Daemon, after, is_steppable}
 use Rattle.sd_core.proofs.EventLaws.{event_awaits}
 use Rattle.sd_core.proofs.NamesLaws.{named_on}
 use Rattle.sd_conf.specs.declared.config.Config.{Config}
-use Rattle.sd_course.specs.Courses.{Client, Course, need_of, script_at, client_replied}
-use Rattle.sd_course.specs.Names.{names}
+use Rattle.sd_engine.specs.Courses.{Client, Course, need_of, script_at, client_replied}
+use Rattle.sd_engine.specs.Names.{names}
 use Rattle.sd_desk.proofs.Reached as reached
 use Rattle.sd_desk.proofs.Reached.{speaks_after, speaks_reached}
 use Rattle.sd_engine.specs.declared.ending.SessionEnd.{SessionEnd}

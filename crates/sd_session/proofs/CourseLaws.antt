@@ -23,8 +23,8 @@ use Rattle.sd_rules.specs.LoginScript.{LoginCourse, LoginWords, login_course_nee
 use Rattle.sd_rules.specs.Lookups.{lookup_replied, course_need, course_replied, looked, renewed, dn_said}
 use Rattle.sd_rules.specs.Scripts as scripts
 use Rattle.sd_rules.specs.Scripts.{event_of, Stepping, Telling, need_at}
-use Rattle.sd_course.specs.Courses.{Course, LookingUp, LoggingIn, Checking, Ordering, script_of, replied, with_hashing}
-use Rattle.sd_course.specs.Names.{is_order, holds_order}
+use Rattle.sd_engine.specs.Courses.{Course, LookingUp, LoggingIn, Checking, Ordering, script_of, replied, with_hashing}
+use Rattle.sd_engine.specs.Names.{is_order, holds_order}
 use Rattle.sd_engine.specs.Leading.{about}
 use Rattle.sd_session.specs.Holding.{lists, requests_of, stage_leads, stage_waits, stage_attempt, lookup_leads, lookup_waits, closing_leads, closing_waits, login_leads, login_waits, login_attempt, access_leads, access_waits, leads_in, waits_in, attempt_in, renews_in, closing_renews, login_renews, access_renews, renews}
 use Rattle.sd_session.proofs.ReplyKinds.{replies_as, is_plain}

@@ -31,8 +31,8 @@ use Rattle.sd_rules.specs.Lookups.{lookup_need, lookup_replied, lookup_fetched, 
 use Rattle.sd_rules.specs.Scripts.{need_at}
 use Rattle.sd_wire.specs.declared.requests.Request.{Request}
 use Rattle.sd_wire.specs.declared.requests.Request.TheVariants as requests
-use Rattle.sd_course.specs.Courses as courses
-use Rattle.sd_course.specs.Courses.{Course, LookingUp, LoggingIn, Checking, Ordering, script_of, told, replied, fetched, bound, with_hashing}
+use Rattle.sd_engine.specs.Courses as courses
+use Rattle.sd_engine.specs.Courses.{Course, LookingUp, LoggingIn, Checking, Ordering, script_of, told, replied, fetched, bound, with_hashing}
 use Rattle.sd_engine.specs.Engines.{course_of}
 use Rattle.sd_session.specs.Holding.{requests_of, stage_leads, stage_waits, stage_attempt, closing_leads, closing_waits, leads_in, waits_in, attempt_in, is_leading, renews_in, closing_renews, login_renews, access_renews, renews}
 use Rattle.sd_session.proofs.HoldingLaws.{step_is_leading, leading_on}

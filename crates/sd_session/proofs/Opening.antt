@@ -3,7 +3,7 @@ use Rattle.std.proofs.Common.{◌≡◌, ℕ, true, false, List, [], Option, Som
 use Rattle.std.specs.Prelude.{IfSome}
 use Rattle.std.proofs.KnownBytes.{Appends-nil, Consumes-nil}
 use Rattle.sd_rules.specs.Steps.{Daemon}
-use Rattle.sd_course.specs.Courses.{Client}
+use Rattle.sd_engine.specs.Courses.{Client}
 use Rattle.sd_session.specs.Spoken.{IsSpoken}
 use Rattle.sd_session.specs.Sessions.{Company}
 use Rattle.sd_core.specs.Growth.{IsGrown}

@@ -28,9 +28,9 @@ use Rattle.sd_core.proofs.KeptLaws.{kept_after}
 use Rattle.sd_core.proofs.LawProofs.{pick_law}
 use Rattle.sd_core.proofs.NamesLaws.{Carries, named_on}
 use Rattle.sd_core.proofs.OwnNumbers.{asked_key}
-use Rattle.sd_course.specs.Courses.{Course, script_of, replied, fetched, bound, told}
-use Rattle.sd_course.specs.Names.{holds_order, names}
-use Rattle.sd_course.proofs.CourseLaws.{course_law, order_always, replied_names, told_names, fetched_names, bound_names, replied_order, told_order, fetched_order, bound_order}
+use Rattle.sd_engine.specs.Courses.{Course, script_of, replied, fetched, bound, told}
+use Rattle.sd_engine.specs.Names.{holds_order, names}
+use Rattle.sd_engine.proofs.CourseLaws.{course_law, order_always, replied_names, told_names, fetched_names, bound_names, replied_order, told_order, fetched_order, bound_order}
 use Rattle.sd_desk.specs.Speaking.{OrNone, Speaks}
 use Rattle.sd_desk.specs.Steps.{MayStep, MayAnswer}
 use Rattle.sd_desk.proofs.Reached.{asked_speaks}

@@ -22,15 +22,15 @@ use Rattle.sd_rules.specs.Scripts.{event_of}
 use Rattle.sd_conf.specs.declared.config.Config.{Config}
 use Rattle.sd_clock.specs.Readings.{FollowsOn}
 use Rattle.sd_dial.specs.Operations.{Operation}
-use Rattle.sd_inquiry.specs.Counting.{HasNotFallen}
-use Rattle.sd_inquiry.specs.Lookups.{with_operations}
-use Rattle.sd_inquiry.specs.Received.{with_lines}
+use Rattle.sd_engine.specs.Counting.{HasNotFallen}
+use Rattle.sd_engine.specs.Lookups.{with_operations}
+use Rattle.sd_engine.specs.Received.{with_lines}
 use Rattle.sd_inbox.specs.Taking.{Unread}
 use Rattle.sd_wire.specs.declared.requests.Request.{Request}
 use Rattle.sd_wire.specs.Frames.{frame_of}
-use Rattle.sd_course.specs.Courses.{Client, need_of, client_told, client_replied, client_fetched, client_bound, told}
+use Rattle.sd_engine.specs.Courses.{Client, need_of, client_told, client_replied, client_fetched, client_bound, told}
 use Rattle.sd_engine.specs.Engines.{Engine, client_of, heard, awaiting, done, replied}
-use Rattle.sd_course.specs.Names.{holds_order}
+use Rattle.sd_engine.specs.Names.{holds_order}
 use Rattle.sd_engine.specs.Leading.{about, leads_after, ticket_after}
 use Rattle.sd_engine.specs.Turns.{Dialling, HearsRequest, HearsBytes, GoesByFetch, GoesByBind, IsTold, IsUntold}
 use Rattle.sd_session.specs.Sessions.{Company, Move, Finds, Hears, Steps, Refuses, Fetches, Binds, Tells, Breaks, Finishes, Stand, AllMay, moved, stand_after, frames_of, last_stops, ReadsOn, Trace, TracesOn, CountsFalls, fetch_falls, bind_falls}

@@ -24,7 +24,7 @@ use Rattle.sd_rules.specs.LoginScript.{LoginCourse, LoginWords, login_course_nee
 use Rattle.sd_rules.specs.Lookups.{lookup_need, lookup_replied, renewed}
 use Rattle.sd_rules.specs.Scripts as scripts
 use Rattle.sd_rules.specs.Scripts.{Stepping, Telling, need_at}
-use Rattle.sd_course.specs.Courses.{Course, LookingUp, LoggingIn, Checking, Ordering, script_of, told, replied, fetched, bound, with_hashing}
+use Rattle.sd_engine.specs.Courses.{Course, LookingUp, LoggingIn, Checking, Ordering, script_of, told, replied, fetched, bound, with_hashing}
 use Rattle.sd_session.specs.Holding.{lookup_is_told, closing_is_told, is_told}
 use Rattle.sd_session.proofs.HoldingLaws.{untrue}
 

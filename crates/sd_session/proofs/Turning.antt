@@ -12,10 +12,10 @@ use Rattle.sd_rules.specs.Steps.{Daemon}
 use Rattle.sd_conf.specs.declared.config.Config.{Config}
 use Rattle.sd_dial.specs.Entries.{Behind}
 use Rattle.sd_dial.specs.Operations.{Operation}
-use Rattle.sd_inquiry.specs.Counting.{HasNotFallen}
-use Rattle.sd_inquiry.specs.Lookups.{with_operations}
-use Rattle.sd_inquiry.specs.Received.{with_lines}
-use Rattle.sd_course.specs.Courses.{Client, need_of, script_at}
+use Rattle.sd_engine.specs.Counting.{HasNotFallen}
+use Rattle.sd_engine.specs.Lookups.{with_operations}
+use Rattle.sd_engine.specs.Received.{with_lines}
+use Rattle.sd_engine.specs.Courses.{Client, need_of, script_at}
 use Rattle.sd_session.specs.Sessions.{Company, Trace, stand_after}
 use Rattle.sd_session.specs.Spoken.{IsSpoken}
 use Rattle.sd_engine.specs.declared.ending.SessionEnd.{SessionEnd}

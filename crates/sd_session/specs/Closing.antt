@@ -7,7 +7,7 @@ use Rattle.sd_rules.specs.Reaching.{Reaches}
 use Rattle.sd_rules.specs.Requests.{is_open, is_open_request, is_open_attempt, waits_for, reserves}
 use Rattle.sd_rules.specs.Steps.{Daemon}
 use Rattle.sd_forgetting.specs.Orderly.{IsOrderly}
-use Rattle.sd_course.specs.Courses.{Client}
+use Rattle.sd_engine.specs.Courses.{Client}
 use Rattle.sd_session.specs.Holding.{lists, leads_of, attempt_of, waits_of, client_renews}
 
 -- no number of these entries is that of an open request or attempt, or of a ticket that waits

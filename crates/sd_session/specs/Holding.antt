@@ -15,7 +15,7 @@ use Rattle.sd_rules.specs.LoginScript as logins
 use Rattle.sd_rules.specs.LoginScript.{LoginCourse}
 use Rattle.sd_rules.specs.Scripts as orders
 use Rattle.sd_rules.specs.Scripts.{AdminCourse}
-use Rattle.sd_course.specs.Courses.{Client, Course, LookingUp, LoggingIn, Checking, Ordering}
+use Rattle.sd_engine.specs.Courses.{Client, Course, LookingUp, LoggingIn, Checking, Ordering}
 
 abbrev pub lists : List ℕ → ℕ → Bool
 lists [] n = false

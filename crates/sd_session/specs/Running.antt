@@ -11,17 +11,17 @@ use Rattle.sd_rules.specs.Steps.{Daemon, is_full, full_count}
 use Rattle.sd_conf.specs.declared.config.Config.{Config}
 use Rattle.sd_dial.specs.Operations.{Operation}
 use Rattle.sd_dial.specs.declared.dialer.Dialer as dialers
-use Rattle.sd_inquiry.specs.Counting.{HasNotFallen}
+use Rattle.sd_engine.specs.Counting.{HasNotFallen}
 use Rattle.sd_rules.specs.declared.keys.Key.{Key}
 use Rattle.sd_rules.specs.declared.tasks.Bound.TheVariants as bounds
 use Rattle.sd_rules.specs.declared.tasks.Fetched.TheVariants as fetches
 use Rattle.sd_rules.specs.declared.tasks.Need.TheVariants as needs
-use Rattle.sd_inquiry.specs.Binds.{BindOperations}
-use Rattle.sd_inquiry.specs.Lookups.{LookupOperations, with_operations}
-use Rattle.sd_inquiry.specs.Received.{with_lines}
+use Rattle.sd_engine.specs.Binds.{BindOperations}
+use Rattle.sd_engine.specs.Lookups.{LookupOperations, with_operations}
+use Rattle.sd_engine.specs.Received.{with_lines}
 use Rattle.sd_wire.specs.Frames.{IsCut, IsBad}
 use Rattle.sd_rules.specs.Scripts.{event_of, is_need_of_kind, key_at}
-use Rattle.sd_course.specs.Courses.{Client, need_of, script_at}
+use Rattle.sd_engine.specs.Courses.{Client, need_of, script_at}
 use Rattle.sd_session.specs.Spoken.{IsSpoken}
 use Rattle.sd_engine.specs.declared.ending.SessionEnd.{SessionEnd}
 use Rattle.sd_engine.specs.declared.ending.SessionEnd.TheVariants as ends

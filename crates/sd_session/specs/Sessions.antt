@@ -19,11 +19,11 @@ use Rattle.sd_dial.specs.Operations.{Operation}
 use Rattle.sd_asking.specs.Binding.{told_bind, IsToldBind}
 use Rattle.sd_fetch.specs.Lookup.{looked_up}
 use Rattle.sd_fetch.specs.Told.{searches_of, first_failure}
-use Rattle.sd_inquiry.specs.Lookups.{LookupOperations, IsToldFetch}
-use Rattle.sd_inquiry.specs.Binds.{BindOperations}
+use Rattle.sd_engine.specs.Lookups.{LookupOperations, IsToldFetch}
+use Rattle.sd_engine.specs.Binds.{BindOperations}
 use Rattle.sd_wire.specs.declared.requests.Request.{Request}
 use Rattle.sd_wire.specs.Frames.{frame_of}
-use Rattle.sd_course.specs.Courses.{Client, need_of, client_told, client_replied, client_fetched, client_bound}
+use Rattle.sd_engine.specs.Courses.{Client, need_of, client_told, client_replied, client_fetched, client_bound}
 use Rattle.sd_engine.specs.Answering.{reply_of}
 use Rattle.sd_engine.specs.Engines.{client_of, is_stop}
 

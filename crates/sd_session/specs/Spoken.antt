@@ -6,8 +6,8 @@ use Rattle.sd_rules.specs.declared.scripts.Led.{Led}
 use Rattle.sd_rules.specs.Names.{AllNamed}
 use Rattle.sd_rules.specs.Steps.{Daemon}
 use Rattle.sd_core.specs.Laws.{IsKept}
-use Rattle.sd_course.specs.Courses.{Course}
-use Rattle.sd_course.specs.Names.{names, holds_order}
+use Rattle.sd_engine.specs.Courses.{Course}
+use Rattle.sd_engine.specs.Names.{names, holds_order}
 use Rattle.sd_desk.specs.Speaking.{Speaks}
 
 abbrev pub Spoken : Daemon → ℕ → Key → Type 0

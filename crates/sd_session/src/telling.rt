@@ -2,7 +2,7 @@
 ghost use Rattle.std.specs.Prelude.{◌≡◌, true, IfSome};
 ghost use Rattle.std.specs.Option.{ForSome};
 ghost use Rattle.sd_rules.specs.Scripts.{awaits_reply, fits_found, key_at};
-ghost use Rattle.sd_course.specs.Courses.{need_of, script_at};
+ghost use Rattle.sd_engine.specs.Courses.{need_of, script_at};
 ghost use Rattle.sd_session.specs.Running as running;
 
 use sd_base::Memory;

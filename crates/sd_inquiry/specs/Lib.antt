@@ -1,4 +1,0 @@
-pub mod Counting
-pub mod Received
-pub mod Lookups
-pub mod Binds
