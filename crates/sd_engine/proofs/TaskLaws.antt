@@ -8,7 +8,7 @@ use Rattle.sd_rules.specs.declared.tasks.Fetched.{Fetched}
 use Rattle.sd_rules.specs.declared.tasks.Need.{Need}
 use Rattle.sd_rules.specs.declared.tasks.Need.TheVariants as needs
 use Rattle.sd_rules.specs.Scripts.{Script, Lookup, Login, Access, Admin, need_at, told_at, replied_at, fetched_at, bound_at, awaits_reply, answers_search, is_saying, key_at, is_need_of_kind}
-use Rattle.sd_admin.specs.declared.task.AdminTask.TheVariants as order_tasks
+use Rattle.sd_nss.specs.declared.admin.AdminTask.TheVariants as order_tasks
 use Rattle.sd_engine.specs.declared.task.ClientTask.{ClientTask}
 use Rattle.sd_engine.specs.declared.task.ClientTask.TheVariants.{LookUp, LogIn, Check, Administer}
 use Rattle.sd_engine.specs.Courses.{Course, LookingUp, LoggingIn, Checking, Ordering, script, seen, script_of, told, replied, fetched, bound}

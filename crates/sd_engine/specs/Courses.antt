@@ -13,12 +13,12 @@ use Rattle.sd_rules.specs.LoginScript as logins
 use Rattle.sd_rules.specs.Lookups.{course_told, course_replied, course_fetched}
 use Rattle.sd_rules.specs.Lookups as lookups
 use Rattle.sd_rules.specs.Scripts.{Script, Lookup, Login, Access, Admin, AdminCourse, Stepping, Telling, Over, admin_told, admin_replied, need_at}
-use Rattle.sd_admin.specs.Tasks as seen_orders
+use Rattle.sd_nss.specs.Tasks as seen_orders
 use Rattle.sd_pam.specs.Checks as seen_checks
 use Rattle.sd_pam.specs.Logins as seen_logins
 use Rattle.sd_pam.specs.Logins.{hashing}
-use Rattle.sd_admin.specs.declared.task.AdminTask.{AdminTask}
-use Rattle.sd_admin.specs.declared.task.AdminTask.TheVariants as order_tasks
+use Rattle.sd_nss.specs.declared.admin.AdminTask.{AdminTask}
+use Rattle.sd_nss.specs.declared.admin.AdminTask.TheVariants as order_tasks
 use Rattle.sd_engine.specs.declared.task.ClientTask.{ClientTask}
 use Rattle.sd_engine.specs.declared.task.ClientTask.TheVariants.{LookUp, LogIn, Check, Administer}
 

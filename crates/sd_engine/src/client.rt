@@ -5,10 +5,9 @@ ghost use Rattle.sd_rules.specs.Scripts.{awaits_reply, awaits_bind, answers_sear
 ghost use Rattle.sd_engine.specs.Courses as courses;
 
 use crate::task::ClientTask;
-use sd_admin::AdminTask;
 use sd_base::{Memory, Text};
 use sd_creds::Salts;
-use sd_nss::NssTask;
+use sd_nss::{AdminTask, NssTask};
 use sd_pam::{AccessTask, LoginTask};
 use sd_rules::{AccessMode, Bound, Event, Fetched, Given, Key, Need};
 use std::alloc::Global;

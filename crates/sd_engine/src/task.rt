@@ -3,10 +3,9 @@ ghost use Rattle.std.specs.Prelude.{◌≡◌, true, false, IfOk, OnOk, OnErr};
 ghost use Rattle.sd_rules.specs.Scripts.{awaits_reply, awaits_bind, answers_search, fits_found, is_need_of_kind, is_saying, is_tellable, key_at, need_at, is_out_of_memory, is_bind_out_of_memory};
 ghost use Rattle.sd_engine.specs.Courses as courses;
 
-use sd_admin::AdminTask;
 use sd_base::Memory;
 use sd_creds::Salts;
-use sd_nss::NssTask;
+use sd_nss::{AdminTask, NssTask};
 use sd_pam::{AccessTask, LoginTask};
 use sd_rules::{Bound, Fetched, Given, Need, Task};
 

@@ -1,7 +1,7 @@
 //! The task of an administrator's request.
 ghost use Rattle.std.specs.Prelude.{◌≡◌};
 ghost use Rattle.sd_rules.specs.Scripts.{admin_script};
-ghost use Rattle.sd_admin.specs.Tasks as tasks;
+ghost use Rattle.sd_nss.specs.Tasks as tasks;
 
 use sd_base::{Copied, Memory};
 use sd_rules::{Bound, Event, Fetched, Given, Need, Said, Task};
