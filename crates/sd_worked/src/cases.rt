@@ -1,5 +1,6 @@
 // One case, and how it is played.
 use crate::files::Files;
+use crate::lines::print_lines;
 use crate::numbers::{print_hash, print_sid};
 use crate::tools::Tool;
 use sd_base::{Memory, MemorySink, MemorySource, Numbers};
@@ -20,6 +21,8 @@ const END: usize = 60;
 enum Way {
     /// A tool is run.
     Run(Tool),
+    /// Its lines are read one by one.
+    Lines,
     /// It is read as a SID.
     Sid,
     /// It is hashed from this seed.
@@ -74,6 +77,7 @@ impl<'a> Case<'a> {
             b"write" => case.write = value,
             b"fill" => case.fill = value.min(MOST),
             b"many" => case.many = value.min(DOMAINS),
+            b"lines" => case.way = Way::Lines,
             b"sid" => case.way = Way::Sid,
             _ => case.way = Way::Hash(value),
         }
@@ -168,6 +172,7 @@ impl<'a> Case<'a> {
     pub fn print(&self, alloc: Global, files: Files<'_>, out: &mut Vec<u8>) -> Result<(), Memory> {
         match self.way {
             Way::Run(tool) => self.run(alloc, tool, files, out),
+            Way::Lines => print_lines(alloc, self.text, out),
             Way::Sid => print_sid(alloc, cut_line(self.text).0, out),
             Way::Hash(seed) => print_hash(alloc, seed, cut_line(self.text).0, out),
         }

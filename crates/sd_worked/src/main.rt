@@ -1,4 +1,5 @@
-// Plays worked cases of the program's words: standard input has many, standard output gets what each writes and its status.
+// Plays worked cases of the program's words, and of what they read: standard input has many, standard output gets what each writes
+// and its status.
 //
 // A line `== NAME` begins a case, whose text is all lines up to the next such line. What is written stands between the name
 // and a line `= STATUS`. Lines that begin with `% ` may stand in front of the text:
@@ -8,6 +9,8 @@
 // - `% read N`, `% write N`: this call of the source that is read first, or of the sink, fails.
 // - `% fill N`: so many bytes `#` stand in front of the text. `% many N`: so many lines `domain ..` stand there, and of what
 //   is written only the end is printed.
+// - `% lines`: the text's lines are read one by one as names, configurations, entries and what these are (lines.rt), and what
+//   they say is printed without a status.
 // - `% sid`: the text's first line is read as a SID. `% murmur SEED`: it is hashed.
 //
 // `scenario` and `idmap` read the text. The others read a configuration and entries: the lines in front of a line `--`, and
@@ -15,8 +18,15 @@
 #![tactic(auto)]
 
 mod cases;
+mod configs;
+mod entries;
 mod files;
+mod lines;
+mod names;
+mod nets;
 mod numbers;
+mod output;
+mod records;
 mod tools;
 
 use cases::Case;

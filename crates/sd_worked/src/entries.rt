@@ -1,5 +1,5 @@
 // What entries in LDIF say.
-use crate::lines::{print_number, print_text};
+use crate::output::{print_number, print_text};
 use sd_base::Memory;
 use sd_ldap::{Attribute, DirEntry};
 use sd_ldif::{LdifFault, read_ldif};

@@ -1,5 +1,4 @@
-// Reads worked texts: standard input has distinguished names, configurations and entries in LDIF, standard output gets
-// what each of them says, or why it is refused, and which records, netgroup triples and sudo rules entries are.
+// Lines that are read one by one, and what each of them says, or why it is refused.
 //
 // A line `dn TEXT` has a DN, a line `dns TEXT | TEXT` two of them. A line `conf`, `config` or `ldif` begins a block,
 // whose text runs to a line that is a dot alone, without the end of its last line; of a `config` everything is told, of
@@ -9,29 +8,24 @@
 // speaks of the host `H1`, the user `alice` and any domain, or the place of its first bad byte; and of each sudo rule the
 // name, the order, how many attributes sudo is handed, and whether it applies to alice, who is 1000 in the groups 1000 and
 // 2001 `staff` and in the netgroup `a`. Other lines are printed as they stand.
-#![tactic(auto)]
-
-mod configs;
-mod entries;
-mod lines;
-mod names;
-mod nets;
-mod records;
-
-use lines::{cut_block, cut_line};
-use sd_base::{Memory, ReaderSource, WriterSink, read_all, write_all};
+use crate::output::print_line;
+use crate::{configs, entries, names, nets, records};
+use sd_base::Memory;
+use sd_plays::{cut_before, cut_line};
 use std::alloc::Global;
-use std::process::ExitCode;
 
-/// The longest input, in bytes.
-const LIMIT: usize = 1 << 20;
+/// The lines in front of the first dot alone, without the end of the last, and what comes behind the dot.
+fn cut_block(text: &[u8]) -> (&[u8], &[u8]) {
+    let (block, behind) = cut_before(text, b".\n");
+    (&block[..block.len().saturating_sub(1)], cut_line(behind).1)
+}
 
 /// What a line alone says.
 fn print_one(alloc: Global, line: &[u8], out: &mut Vec<u8>) -> Result<(), Memory> {
     match line {
         [b'd', b'n', b' ', text @ ..] => names::print_name(alloc, text, out),
         [b'd', b'n', b's', b' ', texts @ ..] => names::print_two(alloc, texts, out),
-        _ => lines::print_line(out, line),
+        _ => print_line(out, line),
     }
 }
 
@@ -55,35 +49,14 @@ fn print_next<'a>(alloc: Global, text: &'a [u8], out: &mut Vec<u8>) -> Result<&'
     Ok(behind)
 }
 
-/// What all of a text says.
-fn print_text(alloc: Global, text: &[u8]) -> Result<Vec<u8>, Memory> {
-    let mut out = Vec::new(alloc);
+/// Appends what all lines of a text say.
+pub fn print_lines(alloc: Global, text: &[u8], out: &mut Vec<u8>) -> Result<(), Memory> {
     let mut left = text;
     for _ in 0..text.len() {
         if left.is_empty() {
             break;
         }
-        left = print_next(alloc, left, &mut out)?;
+        left = print_next(alloc, left, out)?;
     }
-    Ok(out)
-}
-
-fn run(rt: &HostRuntime) -> u8 {
-    let alloc = rt.alloc();
-    let mut source = ReaderSource::new(rt.stdin());
-    let mut sink = WriterSink::new(rt.stdout());
-    let Ok(text) = read_all(alloc, &mut source, LIMIT) else {
-        return 3;
-    };
-    let Ok(out) = print_text(alloc, text.as_slice()) else {
-        return 7;
-    };
-    match write_all(&mut sink, out.as_slice()) {
-        Ok(()) => 0,
-        Err(_) => 4,
-    }
-}
-
-fn main(rt: HostRuntime) -> ExitCode {
-    ExitCode::from(run(&rt))
+    Ok(())
 }

@@ -1,7 +1,9 @@
 // What distinguished names say.
-use crate::lines::{cut_pair, print, print_line, print_number};
+use crate::output::{print, print_line, print_number};
 use sd_base::{Copied, Memory};
 use sd_dn::{Dn, DnFault, dn_equal, is_at_or_under, is_dn, is_under, leaf_under, read_dn};
+use sd_pieces::cut;
+use sd_plays::cut_word;
 use std::alloc::Global;
 
 /// Each pair as `TYPE:VALUE+`, and `/` behind each RDN.
@@ -52,6 +54,13 @@ fn print_if(holds: bool, word: &[u8], out: &mut Vec<u8>) -> Result<(), Memory> {
         print(out, word)?;
     }
     Ok(())
+}
+
+/// The text in front of ` | `, and the text behind it.
+fn cut_pair(text: &[u8]) -> (&[u8], &[u8]) {
+    let (front, behind) = cut(b'|', text);
+    let (_, behind) = cut_word(behind.unwrap_or(b""));
+    (&front[..front.len().saturating_sub(1)], behind)
 }
 
 /// Whether the first DN equals the second, is under it, at or under it, and the leaf that it is there.

@@ -1,5 +1,5 @@
 // What configurations say.
-use crate::lines::{print, print_line, print_number, print_text};
+use crate::output::{print, print_line, print_number, print_text};
 use sd_base::{Memory, Texts};
 use sd_conf::{ConfFault, Config, read_conf};
 use sd_rules::{AccessMode, Settings};

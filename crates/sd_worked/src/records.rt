@@ -1,5 +1,5 @@
 // The records that entries are.
-use crate::lines::{print_line, print_text};
+use crate::output::{print_line, print_text};
 use sd_base::{Memory, Text};
 use sd_conf::{Config, read_conf};
 use sd_ldap::DirEntry;

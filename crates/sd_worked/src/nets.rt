@@ -1,5 +1,5 @@
 // What netgroup triples and sudo rules in LDIF say.
-use crate::lines::{print, print_line, print_number};
+use crate::output::{print, print_line, print_number};
 use sd_base::{Memory, Numbers, Text, Texts};
 use sd_ldap::{Attribute, DirEntry};
 use sd_ldif::read_ldif;
