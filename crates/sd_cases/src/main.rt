@@ -13,12 +13,19 @@
 //   went back; a step has the last entry's moment then.
 // - `waits` and `servers` print fixed calls of a request table (sd_table) and of the servers of a domain (sd_failover), which need no
 //   journal, and what each gives.
+// - `pace KIND USERS ENTRIES STEPS` makes steps of one kind (pace_kinds.rt) over a core of their own: it is opened with so many kept
+//   users, asked for them until it has so many entries, and then the steps are made. It prints what the steps came to; with the word
+//   `times` as the program's argument also how long one of them took, in nanoseconds: their events are made before.
 #![tactic(auto)]
 
 mod asked;
 mod calls;
 mod keeping;
 mod marks;
+mod pace_events;
+mod pace_kinds;
+mod pace_world;
+mod paces;
 mod play;
 mod restarted;
 mod row_lines;
@@ -30,19 +37,31 @@ use play::Play;
 use sd_base::{Memory, ReaderSource, WriterSink};
 use sd_plays::{Failure, print, read};
 use sd_steps::words::cut;
-use std::alloc::Global;
+use std::env;
 use std::process::ExitCode;
 
+/// Whether the program's argument is `times`.
+fn is_timed(rt: &HostRuntime) -> bool {
+    let Ok(mut words) = env::args(rt) else {
+        return false;
+    };
+    let _program = words.next();
+    match words.next() {
+        Some(word) => word.as_str() == "times",
+        None => false,
+    }
+}
+
 /// What the lines of a text print.
-fn play_all(alloc: Global, text: &[u8]) -> Result<Vec<u8>, Memory> {
-    let mut play = Play::new(alloc)?;
+fn play_all(rt: &HostRuntime, text: &[u8]) -> Result<Vec<u8>, Memory> {
+    let mut play = Play::new(rt.alloc(), is_timed(rt))?;
     let mut left = text;
     for _ in 0..text.len() {
         if left.is_empty() {
             break;
         }
         let (line, rest) = cut(left, b'\n');
-        play.line(alloc, line)?;
+        play.line(rt, line)?;
         left = rest;
     }
     Ok(play.printed())
@@ -50,7 +69,7 @@ fn play_all(alloc: Global, text: &[u8]) -> Result<Vec<u8>, Memory> {
 
 fn made(rt: &HostRuntime) -> Result<Vec<u8>, Failure> {
     let text = read(rt.alloc(), &mut ReaderSource::new(rt.stdin()))?;
-    Ok(play_all(rt.alloc(), text.as_slice())?)
+    Ok(play_all(rt, text.as_slice())?)
 }
 
 fn main(rt: HostRuntime) -> ExitCode {

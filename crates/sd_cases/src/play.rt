@@ -2,6 +2,7 @@
 use crate::asked::print_asked;
 use crate::keeping::{open_rows, print_kept, reopen};
 use crate::marks::print_marks;
+use crate::paces::print_pace;
 use crate::restarted::print_restarted;
 use crate::row_lines::row;
 use crate::servers::print_servers;
@@ -16,11 +17,12 @@ use sd_steps::words::{Words, is};
 use std::alloc::Global;
 use std::mem;
 
-/// The cores, the rows with which they are opened next, and what was printed.
+/// The cores, the rows with which they are opened next, what was printed, and whether runs print how long they took.
 pub struct Play {
     cores: Cores,
     rows: Rows,
     out: Vec<u8>,
+    is_timed: bool,
 }
 
 impl Drop for Play {
@@ -29,17 +31,19 @@ impl Drop for Play {
             cores: _,
             rows: _,
             out: _,
+            is_timed: _,
         } = self;
     }
 }
 
 impl Play {
-    pub fn new(alloc: Global) -> Result<Play, Memory> {
+    pub fn new(alloc: Global, is_timed: bool) -> Result<Play, Memory> {
         let settings = settings::read(alloc, &mut Words::new(b""))?;
         Ok(Play {
             cores: Cores::open(alloc, settings)?,
             rows: Rows::new(alloc),
             out: Vec::new(alloc),
+            is_timed,
         })
     }
 
@@ -48,6 +52,7 @@ impl Play {
             cores: _,
             rows: _,
             out,
+            is_timed: _,
         } = self;
         out
     }
@@ -108,8 +113,12 @@ impl Play {
     }
 
     /// Carries out one line, and prints which row was bad where one was.
-    pub fn line(&mut self, alloc: Global, line: &[u8]) -> Result<(), Memory> {
-        match self.play(alloc, line) {
+    pub fn line(&mut self, rt: &HostRuntime, line: &[u8]) -> Result<(), Memory> {
+        let mut words = Words::new(line);
+        if is(words.word(), b"pace") {
+            return print_pace(rt, &mut self.out, words.rest(), self.is_timed);
+        }
+        match self.play(rt.alloc(), line) {
             Ok(()) => Ok(()),
             Err(OpenFault::BadRows(place)) => {
                 print(&mut self.out, b"bad row")?;

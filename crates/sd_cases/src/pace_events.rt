@@ -3,8 +3,8 @@ ghost use Rattle.std.specs.Prelude.{◌≡◌, List, true};
 ghost use Rattle.sd_rules.specs.declared.replies.Entry.{Entry};
 ghost use Rattle.sd_rules.specs.Steps.{is_steppable};
 
-use crate::kinds::Kind;
-use crate::world::{HASH, name, text};
+use crate::pace_kinds::Kind;
+use crate::pace_world::{HASH, name, text};
 use sd_base::Memory;
 use sd_rules::{Event, Key};
 use std::alloc::Global;

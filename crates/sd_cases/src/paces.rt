@@ -1,25 +1,26 @@
-// Runs: a core that knows users, and steps that are made over it.
+// Runs of steps of one kind over a core that knows users, and what they come to.
 ghost use Rattle.std.specs.Prelude.{◌<◌, ◌^◌, length, IfOk};
 
-use crate::events::{events, is_taken, known, unknown};
-use crate::kinds::{Kind, is_wanted, kind_of};
-use crate::world::{rows, settings};
+use crate::pace_events::{events, is_taken, known, unknown};
+use crate::pace_kinds::{Kind, is_wanted, kind_of};
+use crate::pace_world::{rows, settings};
 use sd_base::Memory;
 use sd_core::Core;
 use sd_pieces::{cut, read_number};
 use sd_rules::{Event, Journal, Reply};
+use sd_steps::output::{print, print_line, print_number};
 use std::alloc::Global;
 use std::time::Instant;
 
 /// What a run came to.
 #[derive(Clone, Copy, PartialEq, Eq)]
-pub struct Came {
+struct Came {
     /// How many steps came to what they should; of a forget, how many entries it dropped.
-    pub wanted: u64,
+    wanted: u64,
     /// How many entries the journal has then.
-    pub entries: u64,
+    entries: u64,
     /// How long a step took.
-    pub nanoseconds: u64,
+    nanoseconds: u64,
 }
 
 /// A step of an event that every journal takes.
@@ -134,7 +135,7 @@ fn number(word: Option<&[u8]>) -> (u32, Option<&[u8]>) {
 }
 
 /// What the run of a line came to, where it is one.
-pub fn run_line(rt: &HostRuntime, line: &[u8]) -> Result<Option<Came>, Memory> {
+fn run_line(rt: &HostRuntime, line: &[u8]) -> Result<Option<Came>, Memory> {
     let (word, rest) = cut(b' ', line);
     let (users, rest) = number(rest);
     let (entries, rest) = number(rest);
@@ -142,5 +143,33 @@ pub fn run_line(rt: &HostRuntime, line: &[u8]) -> Result<Option<Came>, Memory> {
     match kind_of(word) {
         Some(kind) => run(rt, kind, users, entries, steps),
         None => Ok(None),
+    }
+}
+
+fn print_came(out: &mut Vec<u8>, line: &[u8], came: &Came, is_timed: bool) -> Result<(), Memory> {
+    print(out, line)?;
+    print(out, b":")?;
+    print_number(out, came.wanted)?;
+    print(out, b" as wanted,")?;
+    print_number(out, came.entries)?;
+    print(out, b" entries")?;
+    if is_timed {
+        print(out, b",")?;
+        print_number(out, came.nanoseconds)?;
+        print(out, b" ns each")?;
+    }
+    print(out, b"\n")
+}
+
+/// Makes a run, `KIND USERS ENTRIES STEPS`, and prints what it came to, and how long a step took where that is asked.
+pub fn print_pace(
+    rt: &HostRuntime,
+    out: &mut Vec<u8>,
+    line: &[u8],
+    is_timed: bool,
+) -> Result<(), Memory> {
+    match run_line(rt, line)? {
+        Some(came) => print_came(out, line, &came, is_timed),
+        None => print_line(out, b"no run"),
     }
 }

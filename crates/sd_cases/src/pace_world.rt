@@ -1,7 +1,7 @@
 // What the directory told: users, the groups of one of them, this host, and access rules.
 ghost use Rattle.std.specs.Prelude.{◌+◌, ◌≤◌, IfOk};
 
-use crate::kinds::{Kind, rules_of};
+use crate::pace_kinds::{Kind, rules_of};
 use sd_base::{Memory, Shared, Text, Texts};
 use sd_rules::{
     AccessMode, Answered, Element, GroupRef, GroupRefs, Groups, Hash, Host, Key, Record, Row, Rows,
