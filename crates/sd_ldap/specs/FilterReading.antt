@@ -2,7 +2,7 @@
 use Rattle.std.specs.Prelude.{ℕ, zero, suc, ◌==◌, ◌||◌, Bool, true, false, if◌then◌else◌, List, [], ◌∷◌, length, Option, Some, None, Result, Ok, Err}
 use Rattle.sd_ber.specs.Reading.{Reading, Opened, element_at}
 use Rattle.sd_ber.specs.declared.fault.BerFault.{BerFault}
-use Rattle.sd_ldap.specs.declared.filter_reading.Pieces.{Pieces}
+use Rattle.sd_ldap.specs.declared.filter.Pieces.{Pieces}
 use Rattle.sd_ldap.specs.Filters.{FilterValue, both, either, negated, equal, substrings, at_least, at_most, present, unsupported, filters_of}
 use Rattle.sd_ldap.specs.Monad.{◌>>=◌, ended, all_of}
 use Rattle.sd_ldap.specs.Parts.{part_at, expected, text_in}

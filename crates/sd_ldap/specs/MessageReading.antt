@@ -5,8 +5,8 @@ use Rattle.sd_ber.specs.declared.fault.BerFault.TheVariants.{BadTag, Indefinite,
 use Rattle.sd_ber.specs.declared.header.Header.{Header}
 use Rattle.sd_ber.specs.Reading.{Reading, Opened, start_of, header_at, element_at}
 use Rattle.sd_ldap.specs.Values.{SearchValue, OperationValue, MessageValue, bind_request, bind_response, unbind, search, entry, done, reference, other}
-use Rattle.sd_ldap.specs.declared.message_reading.Span.{Span}
-use Rattle.sd_ldap.specs.declared.message_reading.Bounds.{Bounds}
+use Rattle.sd_ldap.specs.declared.message.Span.{Span}
+use Rattle.sd_ldap.specs.declared.message.Bounds.{Bounds}
 use Rattle.sd_ldap.specs.Monad.{◌>>=◌, ended}
 use Rattle.sd_ldap.specs.Parts.{part_at, expected, text_in, number_in, truth_in, texts_in, passed, entry_in, result_in}
 use Rattle.sd_ldap.specs.FilterReading.{filter_in}

@@ -17,3 +17,11 @@ pub enum Filter {
     /// A filter of another kind, approximate or extensible, of which nothing is kept.
     Unsupported,
 }
+
+/// The parts of a value: its start, some in between, its end.
+#[derive(Drop)]
+pub struct Pieces {
+    pub initial: Option<Text>,
+    pub any: Texts,
+    pub last: Option<Text>,
+}

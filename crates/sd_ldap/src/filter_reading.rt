@@ -6,7 +6,7 @@ ghost use Rattle.sd_ldap.specs.Filters.{FilterValue, filter_value, filter_values
 ghost use Rattle.sd_ldap.specs.FilterReading.{pair_in, begins_with, optional_in, run_in, pieces_in, has_part, substrings_in, comparison_of, negation_in, filter_of, filter_in};
 
 use crate::fault::ReadFault;
-use crate::filter::Filter;
+use crate::filter::{Filter, Pieces};
 use crate::parts::{end, expected, part, text};
 use sd_base::{Memory, Text, Texts};
 use sd_ber::Reader;
@@ -60,14 +60,6 @@ fn run(alloc: Global, reader: &mut Reader<'_>, tag: u8) -> Result<Texts, Memory>
         }
     }
     Ok(texts)
-}
-
-/// The parts of a value: its start, some in between, its end.
-#[derive(Drop)]
-struct Pieces {
-    initial: Option<Text>,
-    any: Texts,
-    last: Option<Text>,
 }
 
 #[tactic(auto, unfolding(crate::specs::FilterReading::pieces_in))]

@@ -56,3 +56,19 @@ pub struct Message {
     pub id: u32,
     pub operation: Operation,
 }
+
+/// Where a search begins, how far it goes, and how aliases are followed.
+#[derive(Drop)]
+pub struct Span {
+    pub base: Text,
+    pub scope: u8,
+    pub deref: u8,
+}
+
+/// How many entries, how many seconds, and whether without values.
+#[derive(Drop)]
+pub struct Bounds {
+    pub size: u32,
+    pub time: u32,
+    pub types_only: bool,
+}

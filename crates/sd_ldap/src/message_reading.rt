@@ -6,7 +6,7 @@ ghost use Rattle.sd_ldap.specs.MessageReading.{span_in, bounds_in, search_in, bi
 
 use crate::fault::ReadFault;
 use crate::filter_reading::filter;
-use crate::message::{Message, Operation, SearchRequest};
+use crate::message::{Bounds, Message, Operation, SearchRequest, Span};
 use crate::parts::{end, entry, expected, number, part, pass, result, text, texts, truth};
 use sd_base::Text;
 use sd_ber::Reader;
@@ -17,14 +17,6 @@ const MAX_INT: u32 = 2_147_483_647;
 
 /// How many levels a filter may have.
 const MAX_LEVELS: u32 = 32;
-
-/// Where a search begins, how far it goes, and how aliases are followed.
-#[derive(Drop)]
-struct Span {
-    base: Text,
-    scope: u8,
-    deref: u8,
-}
 
 #[tactic(auto, unfolding(crate::specs::MessageReading::span_in))]
 fn read_span(alloc: Global, reader: &mut Reader<'_>) -> Result<Span, ReadFault>
@@ -38,14 +30,6 @@ fn read_span(alloc: Global, reader: &mut Reader<'_>) -> Result<Span, ReadFault>
         scope: scope as u8,
         deref: deref as u8,
     })
-}
-
-/// How many entries, how many seconds, and whether without values.
-#[derive(Drop)]
-struct Bounds {
-    size: u32,
-    time: u32,
-    types_only: bool,
 }
 
 #[tactic(auto, unfolding(crate::specs::MessageReading::bounds_in))]
