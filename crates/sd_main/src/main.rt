@@ -1,16 +1,14 @@
 // The program: it makes the real objects, hands them to `program` with the words behind its name, and ends with its status.
 #![tactic(auto)]
 
-mod host;
-mod keeper;
 mod outside;
 
-use host::{Health, SystemHost};
 use outside::SystemOutside;
 use sd_base::{Memory, ReaderSource, WriterSink};
 use sd_clock::OpenGate;
 use sd_ldap_server::TcpNetwork;
 use sd_serve::{NO_MEMORY, program};
+use sd_system::{Health, SystemHost};
 use std::process::ExitCode;
 use std::{env, io};
 
