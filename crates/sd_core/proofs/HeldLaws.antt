@@ -13,7 +13,7 @@ use Rattle.sd_rules.specs.Needed.{needed, forgotten, is_needed, last_where, need
 use Rattle.sd_rules.specs.Steps.{Daemon, recorded}
 use Rattle.sd_rules.specs.TextBytes.{bytes_of_event, bytes_of_row, text_bytes}
 use Rattle.sd_keeping.specs.Counts.{HasCounts}
-use Rattle.sd_index.specs.Entries.{numbers_fall, falls}
+use Rattle.sd_voids.specs.Entries.{numbers_fall, falls}
 use Rattle.sd_past.specs.Kept.{Keeps}
 use Rattle.sd_forgetting.specs.Kept.{has_stop}
 use Rattle.sd_forgetting.proofs.Forgets.{needed_kept}

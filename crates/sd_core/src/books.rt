@@ -9,7 +9,7 @@ ghost use Rattle.sd_rules.specs.Steps as steps;
 ghost use Rattle.sd_rules.specs.Limits as limits;
 ghost use Rattle.sd_keeping.specs.Counts as counts;
 ghost use Rattle.sd_forgetting.specs.Kept.{IsKeptOf};
-ghost use Rattle.sd_index.specs.Entries.{numbers_fall};
+ghost use Rattle.sd_voids.specs.Entries.{numbers_fall};
 ghost use Rattle.sd_index.specs.Table.{takes_none};
 ghost use Rattle.sd_past.specs.Closing.{closes_place};
 ghost use Rattle.sd_past.specs.Forgetting.{AreForgotten};

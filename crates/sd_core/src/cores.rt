@@ -21,11 +21,11 @@ use crate::opens::is_open;
 use crate::replies::{reply_to, reply_to_collect};
 use crate::rulings::{Compiled, Ruling, Unkept, keep, ruling_by};
 use sd_base::Memory;
-use sd_index::texts::{of_entries, of_event};
 use sd_journal::requests::is_took;
 use sd_keeping::{OpenJournal, bad_row, opened};
 use sd_past::{Forgotten, IndexedPast, ListedPast, Past};
 use sd_rules::{Entry, Event, Given, Journal, Key, Refused, Rows, Settings, StepFault};
+use sd_voids::texts::{of_entries, of_event};
 use std::alloc::Global;
 use std::marker::Model;
 

@@ -2,15 +2,15 @@
 ghost use Rattle.std.specs.Prelude.{◌≡◌, true, reverse, Some, None, IfOk, IsOk};
 ghost use Rattle.std.specs.Option.{option_copied};
 ghost use Rattle.sd_rules.specs.Steps as steps;
-ghost use Rattle.sd_index.specs.Entries.{falls};
+ghost use Rattle.sd_voids.specs.Entries.{falls};
 ghost use Rattle.sd_core.specs.Numbered as replies;
 
 use sd_base::{Copied, Memory, Shared, Text};
-use sd_index::entries::event_at;
 use sd_keeping::readings::hash_of_event;
 use sd_past::Past;
 use sd_past::found::record_at;
 use sd_rules::{By, Entry, Event, Given, Hash, Outcome, Record, Reply, Rule};
+use sd_voids::entries::event_at;
 
 fn answer_named_by_outcome(outcome: Outcome) -> Option<u64>
     ensures { result ≡ steps.answer_named_by_outcome outcome }

@@ -12,15 +12,15 @@ use Rattle.sd_rules.specs.Answers as answers
 use Rattle.sd_cache.specs.declared.kept.Newest.{Newest}
 use Rattle.sd_cache.specs.Kept.{kept_of}
 use Rattle.sd_index.specs.declared.places.Place.{Place}
-use Rattle.sd_index.specs.Bounds.{Bounds}
+use Rattle.sd_voids.specs.Bounds.{Bounds}
 use Rattle.sd_index.specs.Asked as asked
-use Rattle.sd_index.specs.Entries.{numbers_fall}
+use Rattle.sd_voids.specs.Entries.{numbers_fall}
 use Rattle.sd_index.specs.Outages.{standing_at}
 use Rattle.sd_index.specs.Places.{running_in}
-use Rattle.sd_index.specs.Voids.{bound_of}
+use Rattle.sd_voids.specs.Voids.{bound_of}
 use Rattle.sd_index.specs.Table.{Table, Indexes, reply_in}
-use Rattle.sd_index.proofs.FallLaws.{falls_from_some}
-use Rattle.sd_index.proofs.VoidLaws.{voided_by_number}
+use Rattle.sd_voids.proofs.FallLaws.{falls_from_some}
+use Rattle.sd_voids.proofs.VoidLaws.{voided_by_number}
 use Rattle.sd_index.proofs.RunningLaws.{running_is_open}
 
 fresh_is : (s : Settings) (past : List Entry) (bound t : ℕ) (a : Standing) → nat_lt a.number bound ≡ is_void_after past a

@@ -10,9 +10,9 @@ use Rattle.sd_rules.specs.declared.replies.Reply.TheVariants.{Join, Lead, Refres
 use Rattle.sd_rules.specs.Requests.{is_lead, is_bind, opens_request, opens_attempt, is_open_request, is_open_attempt, joined, waits_for, reserves, reserved_among, reserved_places}
 use Rattle.sd_index.specs.declared.places.Place.{Place}
 use Rattle.sd_index.specs.declared.places.Place.TheVariants.{Request, Attempt, Ticket}
-use Rattle.sd_index.specs.Entries.{falls, numbers_fall}
+use Rattle.sd_voids.specs.Entries.{falls, numbers_fall}
 use Rattle.sd_index.specs.Places.{ticket_of, place_by, place_of, listed, taken, stands, reserved}
-use Rattle.sd_index.proofs.FallLaws.{falls_from_some}
+use Rattle.sd_voids.proofs.FallLaws.{falls_from_some}
 use Rattle.sd_index.proofs.FoundLaws.{AllFound, all_found, request_opened, attempt_opened, ticket_joined}
 
 -- what leads to a contradiction is not so

@@ -2,8 +2,8 @@
 use Rattle.std.proofs.Common.{◌≡◌, ℕ, ◌<◌, Bool, true, false, cond, ◌==◌, List, [], ◌∷◌, Option, None, Some, is_some, sym, ◌∙◌, ap, arith}
 use Rattle.sd_rules.specs.declared.replies.Entry.{Entry}
 use Rattle.sd_rules.specs.Requests.{closes, ends_waiting, unclosed, opens_request, opens_attempt, has_opened_request, has_opened_attempt, is_open_request, is_open_attempt, joined, waits_for}
-use Rattle.sd_index.specs.Entries.{numbers_fall, entry_at}
-use Rattle.sd_index.proofs.FallLaws.{head_below, tail_falls, fall_further, not_same_above, same_self}
+use Rattle.sd_voids.specs.Entries.{numbers_fall, entry_at}
+use Rattle.sd_voids.proofs.FallLaws.{head_below, tail_falls, fall_further, not_same_above, same_self}
 
 -- the entries of a part are those of their numbers in the whole
 abbrev pub AllFound : List Entry → List Entry → Type 0

@@ -14,10 +14,10 @@ use Rattle.sd_forgetting.proofs.Reasons.{by_open, by_waiting}
 use Rattle.sd_forgetting.proofs.Replies.{outage_shown}
 use Rattle.sd_index.specs.declared.places.Place.{Place}
 use Rattle.sd_index.specs.declared.places.Place.TheVariants.{Request, Attempt, Ticket}
-use Rattle.sd_index.specs.Entries.{falls, numbers_fall}
+use Rattle.sd_voids.specs.Entries.{falls, numbers_fall}
 use Rattle.sd_index.specs.Places.{place_of, listed, taken, stands, reserved}
 use Rattle.sd_index.specs.Table.{Table, Indexes, Remake, Remakes}
-use Rattle.sd_index.proofs.FallLaws.{falls_from_some}
+use Rattle.sd_voids.proofs.FallLaws.{falls_from_some}
 use Rattle.sd_index.proofs.FoundLaws.{AllFound, all_found, request_opened, attempt_opened, ticket_joined}
 use Rattle.sd_index.proofs.CountLaws.{count_one}
 

@@ -1,8 +1,4 @@
-pub mod FallLaws
-pub mod Halves
 mod OutageLaws
-mod BoundLaws
-pub mod VoidLaws
 pub mod PlaceLaws
 mod FoundLaws
 pub mod CountLaws

@@ -10,9 +10,9 @@ use Rattle.sd_rules.specs.Past.{or_else}
 use Rattle.sd_rules.specs.Requests.{is_lead, is_bind, is_took, is_left, closes, ends_waiting, unclosed, opens_request, opens_attempt, has_opened_request, has_opened_attempt, is_open_request, is_open_attempt, joined, waits_for}
 use Rattle.sd_index.specs.declared.places.Place.{Place}
 use Rattle.sd_index.specs.declared.places.Place.TheVariants.{Request, Attempt, Ticket}
-use Rattle.sd_index.specs.Entries.{falls, numbers_fall}
+use Rattle.sd_voids.specs.Entries.{falls, numbers_fall}
 use Rattle.sd_index.specs.Places.{ticket_of, place_by, place_of, listed, reserved, gives_back, is_request_of, is_attempt_of, ticket_at, waits_in}
-use Rattle.sd_index.proofs.FallLaws.{head_below, tail_falls, falls_from_some, not_same_below, is_same}
+use Rattle.sd_voids.proofs.FallLaws.{head_below, tail_falls, falls_from_some, not_same_below, is_same}
 use Rattle.sd_index.proofs.PlaceLaws.{and_true, and_false, reserved_after}
 
 or_or : (p q r : Bool) → (p || (q || r)) ≡ ((p || q) || r)

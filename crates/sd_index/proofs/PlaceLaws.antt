@@ -10,9 +10,9 @@ use Rattle.sd_rules.specs.declared.replies.Reply.TheVariants.{Join}
 use Rattle.sd_rules.specs.Requests.{is_lead, is_bind, closes, ends_waiting, unclosed, has_opened_request, has_opened_attempt, joined, waits_for}
 use Rattle.sd_index.specs.declared.places.Place.{Place}
 use Rattle.sd_index.specs.declared.places.Place.TheVariants.{Request, Attempt, Ticket}
-use Rattle.sd_index.specs.Entries.{numbers_fall}
+use Rattle.sd_voids.specs.Entries.{numbers_fall}
 use Rattle.sd_index.specs.Places.{ticket_of, place_by, place_of, listed, taken, stands, reserved, gives_back}
-use Rattle.sd_index.proofs.FallLaws.{head_below, tail_falls, fall_further, not_same_above, same_self}
+use Rattle.sd_voids.proofs.FallLaws.{head_below, tail_falls, fall_further, not_same_above, same_self}
 
 pub and_true : (b : Bool) → b && true ≡ b
 and_true true = refl

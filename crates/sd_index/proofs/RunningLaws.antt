@@ -13,9 +13,9 @@ use Rattle.sd_rules.specs.Past.{or_else}
 use Rattle.sd_rules.specs.Requests.{is_lead, is_bind, opens_request, is_open_request, is_open_attempt, waits_for, asks_for, open_among, open_for}
 use Rattle.sd_index.specs.declared.places.Place.{Place}
 use Rattle.sd_index.specs.declared.places.Place.TheVariants.{Request, Attempt, Ticket}
-use Rattle.sd_index.specs.Entries.{falls, numbers_fall}
+use Rattle.sd_voids.specs.Entries.{falls, numbers_fall}
 use Rattle.sd_index.specs.Places.{ticket_of, place_by, place_of, listed, taken, stands, reserved, running_at, running_in}
-use Rattle.sd_index.proofs.FallLaws.{falls_from_some}
+use Rattle.sd_voids.proofs.FallLaws.{falls_from_some}
 use Rattle.sd_index.proofs.FoundLaws.{AllFound, all_found, request_opened}
 use Rattle.sd_index.proofs.CountLaws.{never}
 

@@ -6,15 +6,15 @@ use Rattle.sd_rules.specs.Requests.{reserved_places}
 use Rattle.sd_cache.specs.Cache.{HoldsNewest}
 use Rattle.sd_index.specs.declared.outages.Outage.{Outage}
 use Rattle.sd_index.specs.declared.places.Place.{Place}
-use Rattle.sd_index.specs.Entries.{numbers_fall}
+use Rattle.sd_voids.specs.Entries.{numbers_fall}
 use Rattle.sd_index.specs.Outages.{outage_after, HoldsOutage}
 use Rattle.sd_index.specs.Places.{place_of, listed, reserved}
 use Rattle.sd_index.specs.Places as placed
 use Rattle.sd_index.specs.Signals.{signals_after}
-use Rattle.sd_index.specs.Voids.{HoldsVoids, no_bounds}
+use Rattle.sd_voids.specs.Voids.{HoldsVoids, no_bounds}
 use Rattle.sd_index.specs.Table.{Table, Indexes}
 use Rattle.sd_index.proofs.OutageLaws.{holds_outage_after, holds_no_outage}
-use Rattle.sd_index.proofs.VoidLaws.{holds_no_voids}
+use Rattle.sd_voids.proofs.VoidLaws.{holds_no_voids}
 use Rattle.sd_index.proofs.PlaceLaws.{reserved_after}
 use Rattle.sd_index.proofs.CountLaws.{count_reserved}
 

@@ -5,8 +5,8 @@ use Rattle.sd_rules.specs.declared.replies.Reply.{Reply}
 use Rattle.sd_rules.specs.declared.replies.Reply.TheVariants as replies
 use Rattle.sd_rules.specs.Answers.{is_found, found_timeout, has_midpoint, reply_by_request, is_renewable}
 use Rattle.sd_cache.specs.declared.kept.Newest.{Newest}
-use Rattle.sd_index.specs.Bounds.{Bounds}
-use Rattle.sd_index.specs.Voids.{bound_of}
+use Rattle.sd_voids.specs.Bounds.{Bounds}
+use Rattle.sd_voids.specs.Voids.{bound_of}
 
 abbrev pub timeout_of : Settings → Newest → ℕ
 timeout_of s a = if is_found a.answered then found_timeout s a.own else s.negative_timeout

@@ -11,13 +11,13 @@ use Rattle.sd_cache.specs.Cache.{newest_in, HoldsNewest}
 use Rattle.sd_index.specs.declared.outages.Outage.{Outage}
 use Rattle.sd_index.specs.declared.places.Place.{Place}
 use Rattle.sd_index.specs.Asked.{bound_for, reply_by_newest}
-use Rattle.sd_index.specs.Bounds.{Bounds}
-use Rattle.sd_index.specs.Entries.{falls}
+use Rattle.sd_voids.specs.Bounds.{Bounds}
+use Rattle.sd_voids.specs.Entries.{falls}
 use Rattle.sd_index.specs.Filed.{is_filed}
 use Rattle.sd_index.specs.Outages.{standing_at, HoldsOutage}
 use Rattle.sd_index.specs.Places.{place_of, reserved, running_in}
 use Rattle.sd_index.specs.Signals.{tells_of_servers, signals}
-use Rattle.sd_index.specs.Voids.{HoldsVoids}
+use Rattle.sd_voids.specs.Voids.{HoldsVoids}
 
 -- the newest answers by keys, the last invalidations, the outage that nothing has ended, the places reserved, the entries that tell
 -- of servers (the newest first)

@@ -2,14 +2,14 @@
 ghost use Rattle.std.specs.Prelude.{◌≡◌, true, false, reverse, IsOk, OnOk, OnErr};
 ghost use Rattle.sd_rules.specs.Past as past;
 ghost use Rattle.sd_cache.specs.Cache.{FollowsEntry};
-ghost use Rattle.sd_index.specs.Entries as found;
+ghost use Rattle.sd_voids.specs.Entries as found;
 ghost use Rattle.sd_index.specs.Filed.{is_filed};
 
-use crate::entries::key_of;
 use sd_base::Memory;
 use sd_cache::Cache;
 use sd_journal::past::is_closed;
 use sd_rules::{Answered, Entry, Event, Row};
+use sd_voids::entries::key_of;
 
 /// Puts an answer of the directory under the key of its request, where it has one.
 fn put_under(

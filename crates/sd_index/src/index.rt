@@ -9,9 +9,9 @@ ghost use Rattle.sd_rules.specs.Servers as picks;
 ghost use Rattle.sd_cache.specs.Cache.{HoldsNewest};
 ghost use Rattle.sd_cache.specs.Kept.{kept_of};
 ghost use Rattle.sd_index.specs.Asked as asked;
-ghost use Rattle.sd_index.specs.Entries.{falls, numbers_fall};
+ghost use Rattle.sd_voids.specs.Entries.{falls, numbers_fall};
 ghost use Rattle.sd_index.specs.Filed.{is_filed};
-ghost use Rattle.sd_index.specs.Voids.{HoldsVoids};
+ghost use Rattle.sd_voids.specs.Voids.{HoldsVoids};
 
 use crate::answers::put_answer;
 use crate::asked::{is_filtered, reply_by_newest};
@@ -19,11 +19,11 @@ use crate::outages::{Outage, outage_after, standing_at};
 use crate::places::{Place, has_attempt, has_request, make_room, place_of, running, settle, waits};
 use crate::remade::Remade;
 use crate::signals;
-use crate::voids::Voids;
 use sd_base::Memory;
 use sd_cache::{Cache, Newest, Primed};
 use sd_journal::servers;
 use sd_rules::{Entry, Event, Key, Reply, Settings};
+use sd_voids::voids::Voids;
 use std::alloc::Global;
 use std::marker::Model;
 
@@ -123,7 +123,7 @@ impl Index {
     }
 
     /// The index of a list of entries, the oldest first.
-    #[tactic(auto, using(crate::proofs::Halves::numbers_before, crate::proofs::TableLaws::indexes_more, crate::proofs::TableLaws::indexes_none))]
+    #[tactic(auto, using(sd_voids::proofs::Halves::numbers_before, crate::proofs::TableLaws::indexes_more, crate::proofs::TableLaws::indexes_none))]
     pub fn of(alloc: Global, hasher: Primed, entries: &[Entry]) -> Result<Index, Memory>
         requires { falls (reverse entries.now) ≡ true }
         ensures { IfOk result (λ index. Indexes (reverse entries.now) index) }

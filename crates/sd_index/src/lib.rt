@@ -3,14 +3,11 @@
 
 pub mod answers;
 pub mod asked;
-pub mod entries;
 pub mod index;
 pub mod outages;
 pub mod places;
 pub mod remade;
 pub mod signals;
-pub mod texts;
-pub mod voids;
 
 pub use index::Index;
 pub use remade::Remade;

@@ -1,15 +1,15 @@
 // What is made anew of an index when entries are forgotten: an invalidation or a word of servers may go with them. All else stays.
 ghost use Rattle.std.specs.Prelude.{◌≡◌, [], ◌∷◌, true, reverse, List, OnOk};
 ghost use Rattle.sd_rules.specs.declared.replies.Entry.{Entry};
-ghost use Rattle.sd_index.specs.Entries.{numbers_fall};
+ghost use Rattle.sd_voids.specs.Entries.{numbers_fall};
 ghost use Rattle.sd_index.specs.Table.{Remakes};
-ghost use Rattle.sd_index.specs.Voids.{HoldsVoids};
+ghost use Rattle.sd_voids.specs.Voids.{HoldsVoids};
 
 use crate::signals;
-use crate::voids::Voids;
 use sd_base::Memory;
 use sd_cache::Primed;
 use sd_rules::{Entry, Event};
+use sd_voids::voids::Voids;
 use std::alloc::Global;
 use std::marker::Model;
 
@@ -49,7 +49,7 @@ fn note_void(voids: &mut Voids, entry: &Entry) -> Result<(), Memory>
 
 impl Remade {
     /// No entry was noted; names are hashed so.
-    #[tactic(auto, using(crate::proofs::VoidLaws::holds_no_voids))]
+    #[tactic(auto, using(sd_voids::proofs::VoidLaws::holds_no_voids))]
     pub fn new(alloc: Global, hasher: Primed) -> Remade
         ensures { Remakes [] result }
     {

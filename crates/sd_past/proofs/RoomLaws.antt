@@ -8,11 +8,11 @@ use Rattle.sd_rules.specs.Requests.{reserves, reserved_among, reserved_places}
 use Rattle.sd_rules.specs.Needed.{needed}
 use Rattle.sd_forgetting.specs.Kept.{IsKeptOf}
 use Rattle.sd_forgetting.proofs.Daemons.{places_same}
-use Rattle.sd_index.specs.Entries.{numbers_fall, falls}
+use Rattle.sd_voids.specs.Entries.{numbers_fall, falls}
 use Rattle.sd_index.specs.Places.{place_of, listed, reserved, gives_back}
 use Rattle.sd_index.specs.declared.places.Place.{Place}
 use Rattle.sd_index.proofs.CountLaws.{count_reserved}
-use Rattle.sd_index.proofs.FallLaws.{falls_of}
+use Rattle.sd_voids.proofs.FallLaws.{falls_of}
 use Rattle.sd_index.proofs.PlaceLaws.{reserved_after}
 use Rattle.sd_past.specs.Closing.{HasRoom}
 

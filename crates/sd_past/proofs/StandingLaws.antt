@@ -13,8 +13,8 @@ use Rattle.sd_rules.specs.Past.{Standing, is_closed, key_of, answer_under, answe
 use Rattle.sd_rules.specs.Steps.{event_at, record_of, record_in, record_in_answer}
 use Rattle.sd_cache.specs.declared.kept.Newest.{Newest}
 use Rattle.sd_cache.specs.Kept.{kept_of}
-use Rattle.sd_index.specs.Entries.{numbers_fall, falls}
-use Rattle.sd_index.proofs.FallLaws.{head_below, tail_falls, falls_from_some, not_same_above, same_self}
+use Rattle.sd_voids.specs.Entries.{numbers_fall, falls}
+use Rattle.sd_voids.proofs.FallLaws.{head_below, tail_falls, falls_from_some, not_same_above, same_self}
 use Rattle.sd_past.specs.Standings.{standing_of}
 
 pub standing_kept : (o : Option Standing) → option_map standing_of (option_map kept_of o) ≡ o

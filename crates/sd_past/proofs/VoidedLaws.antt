@@ -4,11 +4,11 @@ use Rattle.sd_rules.specs.declared.keys.Key.{Key}
 use Rattle.sd_rules.specs.declared.records.Answered.{Answered}
 use Rattle.sd_rules.specs.declared.replies.Entry.{Entry}
 use Rattle.sd_rules.specs.Past.{Standing, answer_in, voids, is_void_after}
-use Rattle.sd_index.specs.Bounds.{Bounds}
-use Rattle.sd_index.specs.Entries.{falls, numbers_fall}
-use Rattle.sd_index.specs.Voids.{last_void, bound_of, no_bounds, HoldsVoids}
-use Rattle.sd_index.proofs.FallLaws.{above, tail_falls, falls_from_some}
-use Rattle.sd_index.proofs.VoidLaws.{last_void_before, holds_voids_other, holds_no_voids, answer_number, answer_voids_none, voided_here, voided_there}
+use Rattle.sd_voids.specs.Bounds.{Bounds}
+use Rattle.sd_voids.specs.Entries.{falls, numbers_fall}
+use Rattle.sd_voids.specs.Voids.{last_void, bound_of, no_bounds, HoldsVoids}
+use Rattle.sd_voids.proofs.FallLaws.{above, tail_falls, falls_from_some}
+use Rattle.sd_voids.proofs.VoidLaws.{last_void_before, holds_voids_other, holds_no_voids, answer_number, answer_voids_none, voided_here, voided_there}
 use Rattle.sd_sieve.specs.Users.{StandsIn}
 use Rattle.sd_sieve.proofs.SinceLaws.{stands_at}
 

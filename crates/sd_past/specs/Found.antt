@@ -1,7 +1,7 @@
 -- What is found once of a whole journal, and asked for the row of each entry.
 use Rattle.std.specs.Prelude.{List, reverse}
 use Rattle.sd_rules.specs.declared.replies.Entry.{Entry}
-use Rattle.sd_index.specs.Voids.{HoldsVoids}
+use Rattle.sd_voids.specs.Voids.{HoldsVoids}
 use Rattle.sd_past.specs.declared.findings.Findings.{Findings}
 use Rattle.sd_sieve.specs.Falls.{HoldFalls}
 use Rattle.sd_sieve.specs.Marks.{MarkNewest}

@@ -6,11 +6,11 @@ ghost use Rattle.sd_sieve.specs.Whole as held;
 use crate::voided::voids_of;
 use sd_base::Memory;
 use sd_cache::Primed;
-use sd_index::voids::Voids;
 use sd_sieve::outline::{Outline, outline_of};
 use sd_sieve::servers::Falls;
 use sd_sieve::users::Users;
 use sd_sieve::whole::Whole;
+use sd_voids::voids::Voids;
 use std::alloc::Global;
 
 /// What is found of a whole journal before the rows of its entries are made.

@@ -2,13 +2,13 @@
 ghost use Rattle.std.specs.Prelude.{◌≡◌, true, reverse};
 ghost use Rattle.std.specs.Option.{option_copied};
 ghost use Rattle.sd_rules.specs.Steps as steps;
-ghost use Rattle.sd_index.specs.Entries.{falls};
+ghost use Rattle.sd_voids.specs.Entries.{falls};
 ghost use Rattle.sd_index.specs.Table.{Indexes};
 
 use sd_base::Shared;
 use sd_index::Index;
-use sd_index::entries::event_at;
 use sd_rules::{Answered, Entry, Event, Key, Record, Row};
+use sd_voids::entries::event_at;
 
 fn record_in_answer(answered: &Answered) -> Option<&Shared<Record>>
     ensures { option_copied result ≡ steps.record_in_answer answered.now }

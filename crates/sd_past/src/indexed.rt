@@ -5,7 +5,7 @@ ghost use Rattle.sd_rules.specs.declared.replies.Entry.{Entry};
 ghost use Rattle.sd_rules.specs.Needed as needed;
 ghost use Rattle.sd_rules.specs.Requests as requests;
 ghost use Rattle.sd_forgetting.specs.Kept.{IsKeptOf};
-ghost use Rattle.sd_index.specs.Entries.{falls, numbers_fall};
+ghost use Rattle.sd_voids.specs.Entries.{falls, numbers_fall};
 ghost use Rattle.sd_index.specs.Table.{Indexes, takes_none};
 ghost use Rattle.sd_past.specs.Closing.{closes_place, HasRoom};
 ghost use Rattle.sd_past.specs.Forgetting.{AreForgotten};

@@ -3,20 +3,20 @@ ghost use Rattle.std.specs.Prelude.{◌≡◌, ◌+◌, ◌≤◌, ◌∷◌, �
 ghost use Rattle.std.specs.Option.{option_map};
 ghost use Rattle.sd_rules.specs.Needed as needed;
 ghost use Rattle.sd_rules.specs.Requests as requests;
-ghost use Rattle.sd_index.specs.Entries.{numbers_fall};
+ghost use Rattle.sd_voids.specs.Entries.{numbers_fall};
 ghost use Rattle.sd_past.specs.Closing.{closes_place, HasRoom};
 
 use crate::found::record_at;
 use crate::past::{Forgotten, Past};
 use crate::room::{copied, make_room, with_room};
 use sd_base::{Memory, Shared};
-use sd_index::texts::of_entries;
 use sd_journal::past::{Standing, newest, outage_at};
 use sd_journal::requests::{is_open, is_open_attempt, is_open_request, reserved_places, waits_for};
 use sd_journal::{answers, past, servers};
 use sd_keeping::rows_of;
 use sd_needs::{forgotten, needed};
 use sd_rules::{Entry, Event, Key, Record, Reply, Rows, Settings};
+use sd_voids::texts::of_entries;
 use std::alloc::Global;
 use std::marker::Model;
 

@@ -7,7 +7,7 @@ ghost use Rattle.sd_rules.specs.Past as past;
 ghost use Rattle.sd_rules.specs.Steps as steps;
 ghost use Rattle.sd_keeping.specs.Counts as counts;
 ghost use Rattle.sd_keeping.specs.Keeps as keeps;
-ghost use Rattle.sd_index.specs.Entries.{falls};
+ghost use Rattle.sd_voids.specs.Entries.{falls};
 ghost use Rattle.sd_past.specs.Found as findings;
 ghost use Rattle.sd_past.specs.Kept.{Keeps};
 ghost use Rattle.sd_sieve.specs.Whole as held;

@@ -2,14 +2,14 @@
 ghost use Rattle.std.specs.Prelude.{◌≡◌, ◌∷◌, ◌<◌, length, reverse, take, true, slice_index_or, IfOk, OnOk, Some};
 ghost use Rattle.sd_rules.specs.Past as past;
 ghost use Rattle.sd_journal.specs.Seen as seen;
-ghost use Rattle.sd_index.specs.Entries.{falls, numbers_fall};
-ghost use Rattle.sd_index.specs.Voids.{HoldsVoids};
+ghost use Rattle.sd_voids.specs.Entries.{falls, numbers_fall};
+ghost use Rattle.sd_voids.specs.Voids.{HoldsVoids};
 
 use sd_base::Memory;
 use sd_cache::Primed;
-use sd_index::voids::Voids;
 use sd_journal::past::Standing;
 use sd_rules::{Entry, Event};
+use sd_voids::voids::Voids;
 use std::alloc::Global;
 
 #[tactic(auto, using(crate::proofs::VoidedLaws::holds_other))]
@@ -24,7 +24,7 @@ fn note_void(voids: &mut Voids, before: &[Entry], entry: &Entry) -> Result<(), M
 }
 
 /// The last invalidations of a journal; names are hashed so.
-#[tactic(auto, using(sd_index::proofs::Halves::numbers_before, crate::proofs::VoidedLaws::holds_none))]
+#[tactic(auto, using(sd_voids::proofs::Halves::numbers_before, crate::proofs::VoidedLaws::holds_none))]
 pub fn voids_of(alloc: Global, hasher: Primed, entries: &[Entry]) -> Result<Voids, Memory>
     requires { falls (reverse entries.now) ≡ true }
     ensures { IfOk result (λ voids. HoldsVoids (reverse entries.now) voids) }

@@ -17,8 +17,8 @@ use Rattle.sd_rules.specs.Keys.{same_name, is_user_named, is_group_named, covers
 use Rattle.sd_rules.specs.Logins.{is_name}
 use Rattle.sd_rules.specs.Needed.{same_what, is_void_of, is_number, last_where, is_newest_answer, is_covered, covers_newest}
 use Rattle.sd_rules.specs.Past.{Standing, answer_in, or_else}
-use Rattle.sd_index.specs.Entries.{numbers_fall, falls}
-use Rattle.sd_index.proofs.FallLaws.{above, head_below, tail_falls, fall_further, falls_from_some, tests_less, tests_not_less}
+use Rattle.sd_voids.specs.Entries.{numbers_fall, falls}
+use Rattle.sd_voids.proofs.FallLaws.{above, head_below, tail_falls, fall_further, falls_from_some, tests_less, tests_not_less}
 use Rattle.sd_sieve.specs.Covers.{number_for, HoldVoids, first_of, first_if, PutFirst, is_either, is_about_users, is_about_groups, user_of_key, group_of_key, user_found, group_found, first_covered, where_last, HoldCovered, is_before}
 use Rattle.sd_sieve.specs.Users.{number_under}
 use Rattle.sd_sieve.specs.declared.covers.ByWhat.{ByWhat}

@@ -4,9 +4,9 @@ use Rattle.std.proofs.lemmas.List.{reverse-append, take_more, length_push}
 use Rattle.sd_rules.specs.declared.replies.Entry.{Entry}
 use Rattle.sd_rules.specs.Needed.{is_needed, needed_among, forgotten_among}
 use Rattle.sd_rules.specs.TextBytes.{bytes_of_event, text_bytes}
-use Rattle.sd_index.specs.Entries.{falls, numbers_fall}
-use Rattle.sd_index.proofs.FallLaws.{head_below, tail_falls, fall_further, both_of_two, tests_less}
-use Rattle.sd_index.proofs.Halves.{numbers_before}
+use Rattle.sd_voids.specs.Entries.{falls, numbers_fall}
+use Rattle.sd_voids.proofs.FallLaws.{head_below, tail_falls, fall_further, both_of_two, tests_less}
+use Rattle.sd_voids.proofs.Halves.{numbers_before}
 use Rattle.sd_sieve.specs.Marks.{marks, MarkNeeded}
 use Rattle.sd_sieve.specs.Sifting.{SiftsAt}
 use Rattle.sd_sieve.proofs.MarkLaws.{needed_at}

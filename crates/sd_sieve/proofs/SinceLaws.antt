@@ -5,8 +5,8 @@ use Rattle.std.proofs.lemmas.List.{reverse-append, take_more, take-append-drop}
 use Rattle.sd_rules.specs.declared.replies.Entry.{Entry}
 use Rattle.sd_rules.specs.Logins.{accepts}
 use Rattle.sd_rules.specs.Needed.{is_since_accepted}
-use Rattle.sd_index.specs.Entries.{numbers_fall, falls}
-use Rattle.sd_index.proofs.FallLaws.{above, head_below, tail_falls, fall_further, falls_from_some, same_self, tests_less, tests_not_less, not_same_above}
+use Rattle.sd_voids.specs.Entries.{numbers_fall, falls}
+use Rattle.sd_voids.proofs.FallLaws.{above, head_below, tail_falls, fall_further, falls_from_some, same_self, tests_less, tests_not_less, not_same_above}
 use Rattle.sd_sieve.specs.Users.{last_accepting, is_after, StandsIn}
 
 -- all that accepted before an entry have lesser numbers

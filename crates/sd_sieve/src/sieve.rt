@@ -3,7 +3,7 @@ ghost use Rattle.std.specs.Prelude.{◌≡◌, ◌++◌, ◌∷◌, ◌+◌, ◌
 ghost use Rattle.sd_rules.specs.declared.replies.Entry.{Entry};
 ghost use Rattle.sd_rules.specs.Needed as needed;
 ghost use Rattle.sd_rules.specs.TextBytes as bytes;
-ghost use Rattle.sd_index.specs.Entries.{falls, numbers_fall};
+ghost use Rattle.sd_voids.specs.Entries.{falls, numbers_fall};
 ghost use Rattle.sd_index.specs.Table.{Indexes, Remakes};
 ghost use Rattle.sd_sieve.specs.Briefs.{AreBriefs};
 ghost use Rattle.sd_sieve.specs.Findings as findings;
@@ -20,9 +20,9 @@ use crate::reads::{Looked, is_needed_by};
 use crate::whole::Whole;
 use sd_base::Memory;
 use sd_cache::Primed;
-use sd_index::texts::of_event;
 use sd_index::{Index, Remade};
 use sd_rules::{Entry, Event, Reply};
+use sd_voids::texts::of_event;
 use std::alloc::Global;
 use std::mem;
 

@@ -4,7 +4,7 @@ ghost use Rattle.std.specs.Option.{option_copied};
 ghost use Rattle.sd_rules.specs.declared.replies.Entry.{Entry};
 ghost use Rattle.sd_rules.specs.Logins as logins;
 ghost use Rattle.sd_rules.specs.Needed as needed;
-ghost use Rattle.sd_index.specs.Entries.{falls};
+ghost use Rattle.sd_voids.specs.Entries.{falls};
 ghost use Rattle.sd_sieve.specs.Users as users;
 
 use indexmap::IndexMap;

@@ -3,7 +3,7 @@ ghost use Rattle.std.specs.Prelude.{◌≡◌, ◌<◌, ◌&&◌, ◌||◌, List
 ghost use Rattle.sd_rules.specs.declared.events.Event.{Event};
 ghost use Rattle.sd_rules.specs.declared.replies.Entry.{Entry};
 ghost use Rattle.sd_rules.specs.Needed as needed;
-ghost use Rattle.sd_index.specs.Entries.{falls};
+ghost use Rattle.sd_voids.specs.Entries.{falls};
 ghost use Rattle.sd_sieve.specs.Findings as findings;
 
 use crate::covers::{is_before, number_for};

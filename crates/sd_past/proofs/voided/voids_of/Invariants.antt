@@ -1,5 +1,5 @@
 use Rattle.std.proofs.Common.{reverse, take}
-use Rattle.sd_index.specs.Voids.{HoldsVoids}
+use Rattle.sd_voids.specs.Voids.{HoldsVoids}
 use Rattle.sd_past.proofs.voided.voids_of.Given as goal
 
 -- those of the entries before this place

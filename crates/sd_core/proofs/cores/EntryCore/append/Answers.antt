@@ -1,7 +1,7 @@
 use Rattle.std.proofs.Common.{◌≡◌, ◌+◌, ◌∷◌, ◌≤◌, true, sym, subst}
 use Rattle.sd_rules.specs.Requests.{reserved_places}
 use Rattle.sd_rules.specs.Steps.{Daemon, recorded}
-use Rattle.sd_index.specs.Entries.{numbers_fall}
+use Rattle.sd_voids.specs.Entries.{numbers_fall}
 use Rattle.sd_index.specs.Table.{takes_none}
 use Rattle.sd_past.specs.Closing.{closes_place}
 use Rattle.sd_keeping.specs.Counts.{HasCounts}

@@ -2,8 +2,8 @@
 use Rattle.std.proofs.Common.{◌≡◌, ℕ, ◌<◌, ◌≤◌, Bool, true, cond, ◌==◌, nat_lt, List, [], ◌∷◌, ◌++◌, reverse, length, get_or, drop, take, add-zero, zero, suc, Option, None, Some, refl, sym, ◌∙◌, ap, subst, arith}
 use Rattle.std.proofs.lemmas.List.{append_assoc, reverse-append, length-drop, get_or-drop, take-append-drop}
 use Rattle.sd_rules.specs.declared.replies.Entry.{Entry}
-use Rattle.sd_index.specs.Entries.{numbers_fall, falls, entry_at, Searches}
-use Rattle.sd_index.proofs.FallLaws.{both_of_two, first_of_two, tail_falls, above, falls_from_some, falls_of, not_same_above, none_from, same_self}
+use Rattle.sd_voids.specs.Entries.{numbers_fall, falls, entry_at, Searches}
+use Rattle.sd_voids.proofs.FallLaws.{both_of_two, first_of_two, tail_falls, above, falls_from_some, falls_of, not_same_above, none_from, same_self}
 
 last_falls : (xs : List Entry) (e : Entry) (past : List Entry) (n : ℕ) → numbers_fall n (xs ++ e ∷ past) ≡ true → numbers_fall e.number past ≡ true
 last_falls [] e past n h = tail_falls n e past h

@@ -12,11 +12,11 @@ use Rattle.sd_rules.specs.declared.events.Row.TheVariants as rows
 use Rattle.sd_rules.specs.declared.replies.Entry.{Entry}
 use Rattle.sd_rules.specs.Keys.{speaks_of, covers}
 use Rattle.sd_rules.specs.Past.{Standing, is_closed, key_of, answer_under, answer_by, answer_in, spoken, or_else, newest, voids, is_void_after}
-use Rattle.sd_index.specs.Bounds.{Bounds}
-use Rattle.sd_index.specs.Entries.{numbers_fall}
-use Rattle.sd_index.specs.Voids.{last_void, by_kind, by_key, by_found, bound_of, no_bounds, Sets, HoldsVoids}
-use Rattle.sd_index.proofs.FallLaws.{head_below, tail_falls, tests_less, tests_not_less, not_same_above, same_self}
-use Rattle.sd_index.proofs.BoundLaws.{bound_after}
+use Rattle.sd_voids.specs.Bounds.{Bounds}
+use Rattle.sd_voids.specs.Entries.{numbers_fall}
+use Rattle.sd_voids.specs.Voids.{last_void, by_kind, by_key, by_found, bound_of, no_bounds, Sets, HoldsVoids}
+use Rattle.sd_voids.proofs.FallLaws.{head_below, tail_falls, tests_less, tests_not_less, not_same_above, same_self}
+use Rattle.sd_voids.proofs.BoundLaws.{bound_after}
 
 either_at_most : (b : Bool) (x y n : ℕ) → x ≤ n → y ≤ n → cond b x y ≤ n
 either_at_most true x y n h k = h

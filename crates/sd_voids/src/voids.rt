@@ -1,7 +1,7 @@
 // The last invalidations, by what they cover: an answer is voided where its number is below a bound.
 ghost use Rattle.std.specs.Prelude.{◌≡◌, ℕ, List, max, OnOk, OnErr, if◌then◌else◌};
 ghost use Rattle.sd_rules.specs.Keys.{same_name};
-ghost use Rattle.sd_index.specs.Voids as voids;
+ghost use Rattle.sd_voids.specs.Voids as voids;
 
 use indexmap::IndexMap;
 use sd_base::{Copied, Memory, Text};
@@ -59,7 +59,7 @@ impl Drop for Voids {
 }
 
 impl Model for Voids {
-    ghost use Rattle.sd_index.specs.Bounds.{Bounds};
+    ghost use Rattle.sd_voids.specs.Bounds.{Bounds};
 
     ghost Value = { Bounds };
 

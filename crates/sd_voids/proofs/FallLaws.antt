@@ -7,7 +7,7 @@ use Rattle.sd_rules.specs.declared.events.Event.{Event}
 use Rattle.sd_rules.specs.declared.replies.Entry.{Entry}
 use Rattle.sd_rules.specs.Past.{key_asked, key_of}
 use Rattle.sd_rules.specs.Steps.{event_at}
-use Rattle.sd_index.specs.Entries.{numbers_fall, falls, entry_at}
+use Rattle.sd_voids.specs.Entries.{numbers_fall, falls, entry_at}
 
 pub first_of_two : (a b : Bool) → a && b ≡ true → a ≡ true
 first_of_two true b h = refl

@@ -1,6 +1,6 @@
 use Rattle.std.proofs.Common.{length}
-use Rattle.sd_index.specs.Entries.{Searches}
-use Rattle.sd_index.proofs.entries.entry_by_halves.Given as goal
+use Rattle.sd_voids.specs.Entries.{Searches}
+use Rattle.sd_voids.proofs.entries.entry_by_halves.Given as goal
 
 abbrev pub invariant-loop-part : goal.invariant-loop-part
 invariant-loop-part l = Searches l.part l.entries l.number

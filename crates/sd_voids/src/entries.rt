@@ -3,7 +3,7 @@ ghost use Rattle.std.specs.Prelude.{◌≡◌, ◌<◌, ◌≤◌, true, length,
 ghost use Rattle.std.specs.Option.{option_copied};
 ghost use Rattle.sd_rules.specs.Past as past;
 ghost use Rattle.sd_rules.specs.Steps as steps;
-ghost use Rattle.sd_index.specs.Entries as found;
+ghost use Rattle.sd_voids.specs.Entries as found;
 
 use sd_rules::{Entry, Event, Key};
 

@@ -9,8 +9,8 @@ use Rattle.sd_rules.specs.declared.records.Answered.{Answered}
 use Rattle.sd_rules.specs.declared.records.Answered.TheVariants.{Found, Absent}
 use Rattle.sd_rules.specs.declared.records.Record.TheVariants as records
 use Rattle.sd_rules.specs.Keys.{same_name, same_key, is_user_named, is_group_named, covers}
-use Rattle.sd_index.specs.Bounds.{Bounds}
-use Rattle.sd_index.specs.Voids.{bound_at, by_kind, by_key, by_found, bound_of, Binds, Sets}
+use Rattle.sd_voids.specs.Bounds.{Bounds}
+use Rattle.sd_voids.specs.Voids.{bound_at, by_kind, by_key, by_found, bound_of, Binds, Sets}
 
 either_way : (p q : Bool) → (p ≡ true → q ≡ true) → (q ≡ true → p ≡ true) → p ≡ q
 either_way true true f g = refl

@@ -12,8 +12,8 @@ use Rattle.sd_rules.specs.declared.records.Record.TheVariants as records
 use Rattle.sd_rules.specs.declared.replies.Entry.{Entry}
 use Rattle.sd_rules.specs.Keys.{same_name}
 use Rattle.sd_rules.specs.Past.{voids}
-use Rattle.sd_index.specs.Bounds.{Bounds}
-use Rattle.sd_index.specs.Entries.{numbers_fall}
+use Rattle.sd_voids.specs.Bounds.{Bounds}
+use Rattle.sd_voids.specs.Entries.{numbers_fall}
 
 -- the number of the last invalidation that covers what was answered to a key, 0 where there is none
 abbrev pub last_void : List Entry → Key → Answered → ℕ

@@ -1,6 +1,6 @@
 use Rattle.std.proofs.Common.{◌≡◌, ◌-◌, ◌^◌, min, reverse, take}
 use Rattle.sd_rules.specs.TextBytes as bytes
-use Rattle.sd_index.proofs.texts.of_entries.Given as goal
+use Rattle.sd_voids.proofs.texts.of_entries.Given as goal
 
 -- the sum so far
 abbrev pub invariant-loop-place : goal.invariant-loop-place

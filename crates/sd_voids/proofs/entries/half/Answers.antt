@@ -1,6 +1,6 @@
 use Rattle.std.proofs.Common.{arith}
-use Rattle.sd_index.proofs.Halves.{newer_half, older_half}
-use Rattle.sd_index.proofs.entries.half.Goals as goal
+use Rattle.sd_voids.proofs.Halves.{newer_half, older_half}
+use Rattle.sd_voids.proofs.entries.half.Goals as goal
 
 pub returns-then-first-number-clause-searches : goal.returns-then-first-number-clause-searches
 returns-then-first-number-clause-searches c =

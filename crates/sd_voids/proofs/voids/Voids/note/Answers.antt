@@ -1,9 +1,9 @@
 use Rattle.std.proofs.Common.{◌≡◌, ℕ, true, sym, subst}
 use Rattle.sd_cache.proofs.Puts.{on_ok}
-use Rattle.sd_index.specs.Entries.{numbers_fall}
-use Rattle.sd_index.specs.Voids.{Sets}
-use Rattle.sd_index.proofs.VoidLaws.{holds_voids_after}
-use Rattle.sd_index.proofs.voids.Voids.note.Goals as goal
+use Rattle.sd_voids.specs.Entries.{numbers_fall}
+use Rattle.sd_voids.specs.Voids.{Sets}
+use Rattle.sd_voids.proofs.VoidLaws.{holds_voids_after}
+use Rattle.sd_voids.proofs.voids.Voids.note.Goals as goal
 
 pub returns-clause-ok : goal.returns-clause-ok
 returns-clause-ok c =

@@ -1,0 +1,4 @@
+pub mod FallLaws
+pub mod Halves
+mod BoundLaws
+pub mod VoidLaws
