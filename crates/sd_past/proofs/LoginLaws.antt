@@ -4,7 +4,7 @@ use Rattle.sd_rules.specs.declared.replies.Entry.{Entry}
 use Rattle.sd_rules.specs.KeptRows.{is_unhashed_login}
 use Rattle.sd_rules.specs.Logins.{Login, login_by, login_in, or_earlier, only_hashed, last_online_login, hash_entry}
 use Rattle.sd_rules.specs.Needed.{is_number, is_login}
-use Rattle.sd_sieve.specs.Users.{number_of_login}
+use Rattle.sd_findings.specs.Users.{number_of_login}
 
 abbrev is_hashed : Option Login → Bool
 is_hashed None = false

@@ -9,8 +9,8 @@ use Rattle.sd_voids.specs.Entries.{falls, numbers_fall}
 use Rattle.sd_voids.specs.Voids.{last_void, bound_of, no_bounds, HoldsVoids}
 use Rattle.sd_voids.proofs.FallLaws.{above, tail_falls, falls_from_some}
 use Rattle.sd_voids.proofs.VoidLaws.{last_void_before, holds_voids_other, holds_no_voids, answer_number, answer_voids_none, voided_here, voided_there}
-use Rattle.sd_sieve.specs.Users.{StandsIn}
-use Rattle.sd_sieve.proofs.SinceLaws.{stands_at}
+use Rattle.sd_findings.specs.Users.{StandsIn}
+use Rattle.sd_findings.proofs.SinceLaws.{stands_at}
 
 -- a journal of no entries
 pub holds_none : HoldsVoids [] no_bounds

@@ -1,15 +1,15 @@
 // What is found once of a whole journal, and asked for the row of each entry.
 ghost use Rattle.std.specs.Prelude.{◌≡◌, IfOk};
 ghost use Rattle.sd_past.specs.Found as findings;
-ghost use Rattle.sd_sieve.specs.Whole as held;
+ghost use Rattle.sd_findings.specs.Whole as held;
 
 use crate::voided::voids_of;
 use sd_base::Memory;
 use sd_cache::Primed;
-use sd_sieve::outline::{Outline, outline_of};
-use sd_sieve::servers::Falls;
-use sd_sieve::users::Users;
-use sd_sieve::whole::Whole;
+use sd_findings::outline::{Outline, outline_of};
+use sd_findings::servers::Falls;
+use sd_findings::users::Users;
+use sd_findings::whole::Whole;
 use sd_voids::voids::Voids;
 use std::alloc::Global;
 

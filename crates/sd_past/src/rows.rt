@@ -10,20 +10,20 @@ ghost use Rattle.sd_keeping.specs.Keeps as keeps;
 ghost use Rattle.sd_voids.specs.Entries.{falls};
 ghost use Rattle.sd_past.specs.Found as findings;
 ghost use Rattle.sd_past.specs.Kept.{Keeps};
-ghost use Rattle.sd_sieve.specs.Whole as held;
+ghost use Rattle.sd_findings.specs.Whole as held;
 
 use crate::findings::{Findings, find};
 use crate::users::{fall_row, login_row};
 use crate::voided::is_voided;
 use sd_base::{Copied, Memory, Text};
 use sd_cache::Primed;
+use sd_findings::marks::is_newest_at;
+use sd_findings::whole::Whole;
 use sd_journal::logins::wrongs;
 use sd_journal::past::answer_in;
 use sd_keeping::readings::{last_wrong, least_moment, next_number, wrong_count};
 use sd_needs::readings::{is_number, user_guessed, user_logged_in};
 use sd_rules::{Entry, Row, Rows};
-use sd_sieve::marks::is_newest_at;
-use sd_sieve::whole::Whole;
 use std::alloc::Global;
 
 /// The version of the rows that are made.

@@ -6,15 +6,15 @@ ghost use Rattle.sd_rules.specs.declared.events.Row.TheVariants as rows;
 ghost use Rattle.sd_rules.specs.KeptRows as kept;
 ghost use Rattle.sd_rules.specs.Logins as logins;
 ghost use Rattle.sd_rules.specs.Needed as needed;
-ghost use Rattle.sd_sieve.specs.Falls.{HoldFalls};
-ghost use Rattle.sd_sieve.specs.Users as users;
+ghost use Rattle.sd_findings.specs.Falls.{HoldFalls};
+ghost use Rattle.sd_findings.specs.Users as users;
 
 use sd_base::{Copied, Memory, Shared, Text};
+use sd_findings::servers::{Falls, is_fall_needed};
+use sd_findings::users::{Names, Users};
 use sd_keeping::readings::hash_of_event;
 use sd_needs::readings::is_number;
 use sd_rules::{Entry, Event, Hash, Row};
-use sd_sieve::servers::{Falls, is_fall_needed};
-use sd_sieve::users::{Names, Users};
 use std::alloc::Global;
 
 /// The number that is kept under a name.
@@ -25,7 +25,7 @@ fn number_under(names: &Names, name: &Text) -> Option<u64>
 }
 
 /// Whether the entry of a number is the hash entry of a user.
-#[tactic(auto, using(sd_sieve::proofs::UserLaws::login_is))]
+#[tactic(auto, using(sd_findings::proofs::UserLaws::login_is))]
 fn is_hashed(found: &Users, number: u64, user: &Text) -> bool
     ensures { (past : List Entry) → users.HoldUsers past found.now → result ≡ needed.is_login number (logins.hash_entry past user.now) }
 {

@@ -1,6 +1,5 @@
 -- A plain entry is looked at for its number alone.
-use Rattle.std.proofs.Common.{◌≡◌, ℕ, ◌+◌, ◌-◌, ◌≤◌, Bool, true, false, cond, nat_lt, ◌&&◌, ◌||◌, List, Option, None, Some, is_some, refl, ◌∙◌, ap, arith}
-use Rattle.std.proofs.lemmas.Bool.Decides.{nat_tests}
+use Rattle.std.proofs.Common.{◌≡◌, ℕ, Bool, true, false, ◌&&◌, ◌||◌, List, Option, None, Some, is_some, refl}
 use Rattle.sd_rules.specs.declared.events.Event.{Event}
 use Rattle.sd_rules.specs.declared.events.Event.TheVariants.{Ask, Refuse, Outage, Abandon, Collect, Leave, Offline, LoginOpen, LoginLook, Access}
 use Rattle.sd_rules.specs.declared.replies.Entry.{Entry}
@@ -8,7 +7,7 @@ use Rattle.sd_rules.specs.Needed.{is_fall_needed, is_last, is_login_needed, is_l
 use Rattle.sd_rules.specs.Past.{answer_by}
 use Rattle.sd_rules.specs.Requests.{is_open, waits_for}
 use Rattle.sd_rules.specs.Servers.{is_online}
-use Rattle.sd_sieve.specs.Briefs.{is_plain, request_again, is_number_looked_at, far, offset_of}
+use Rattle.sd_findings.specs.Briefs.{is_plain, request_again, is_number_looked_at}
 use Rattle.sd_sieve.specs.Readings.{is_again_read}
 
 -- whether an entry of this event is looked at
@@ -51,16 +50,3 @@ none_read all e (Some request) h = cc
 
 pub not_again : (all : List Entry) (e : Entry) → is_some (request_again e.event e.reply) ≡ false → false ≡ is_again_read all e all (request_again e.event e.reply)
 not_again all e h = none_read all e (request_again e.event e.reply) h
-
--- the number of an entry, by how far it is above the first, unless that is too far
-number_by : (first n : ℕ) (b c : Bool) → nat_lt n first ≡ b → nat_lt (n - first) far ≡ c → (cond b far (cond c (n - first) far) ≡ far → ⊥)
-    → first + cond b far (cond c (n - first) far) ≡ n
-number_by first n true c below near not = absurd (not refl)
-number_by first n false true below near not =
-    let le : first ≤ n = grind (arith, nat_tests) in
-    omega arith
-number_by first n false false below near not = absurd (not refl)
-
-pub number_again : (first n o : ℕ) → o ≡ offset_of first n → (o ≡ far → ⊥) → first + o ≡ n
-number_again first n o is not =
-    ap (λ (k : ℕ). first + k) is ∙ number_by first n (nat_lt n first) (nat_lt (n - first) far) refl refl (λ far_off. not (is ∙ far_off))

@@ -7,9 +7,9 @@ use Rattle.sd_rules.specs.TextBytes.{bytes_of_event, text_bytes}
 use Rattle.sd_voids.specs.Entries.{falls, numbers_fall}
 use Rattle.sd_voids.proofs.FallLaws.{head_below, tail_falls, fall_further, both_of_two, tests_less}
 use Rattle.sd_voids.proofs.Halves.{numbers_before}
-use Rattle.sd_sieve.specs.Marks.{marks, MarkNeeded}
+use Rattle.sd_findings.specs.Marks.{marks, MarkNeeded}
 use Rattle.sd_sieve.specs.Sifting.{SiftsAt}
-use Rattle.sd_sieve.proofs.MarkLaws.{needed_at}
+use Rattle.sd_findings.proofs.MarkLaws.{needed_at}
 
 -- their numbers fall, too
 fall_or_not : (b : Bool) (n : ℕ) (e : Entry) (kept : List Entry) → nat_lt e.number n ≡ true → numbers_fall e.number kept ≡ true → numbers_fall n kept ≡ true

@@ -8,7 +8,7 @@ use Rattle.sd_rules.specs.declared.replies.Reply.{Reply}
 use Rattle.sd_rules.specs.Needed.{is_number, last_where, is_looked_at, is_last_again, is_answer_to, is_read_for, is_read_with, read_with, is_tried}
 use Rattle.sd_rules.specs.Past.{is_closed}
 use Rattle.sd_rules.specs.Steps.{is_again, asks_again}
-use Rattle.sd_sieve.specs.Briefs.{request_again}
+use Rattle.sd_findings.specs.Briefs.{request_again}
 use Rattle.sd_sieve.specs.Readings.{only_if, reads_lead, answer_read, reads_answer, is_again_read}
 
 and_none : (p : Bool) → (p && false) ≡ false

@@ -3,7 +3,7 @@ use Rattle.std.specs.Prelude.{List, reverse}
 use Rattle.sd_rules.specs.declared.replies.Entry.{Entry}
 use Rattle.sd_rules.specs.Needed.{needed}
 use Rattle.sd_index.specs.Table.{Remakes}
-use Rattle.sd_sieve.specs.Marks.{MarkNeeded}
+use Rattle.sd_findings.specs.Marks.{MarkNeeded}
 use Rattle.sd_sieve.specs.declared.sieve.Plan.{Plan}
 
 -- it marks those that it keeps, and makes anew what the index says of them alone

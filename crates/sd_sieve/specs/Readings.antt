@@ -7,8 +7,8 @@ use Rattle.sd_rules.specs.declared.replies.Reply.{Reply}
 use Rattle.sd_rules.specs.Needed.{is_number, is_looked_at, is_last_again, read_with}
 use Rattle.sd_rules.specs.Past.{is_closed}
 use Rattle.sd_rules.specs.Steps.{is_again}
-use Rattle.sd_sieve.specs.Findings.{is_among}
-use Rattle.sd_sieve.specs.Marks.{marks}
+use Rattle.sd_findings.specs.Findings.{is_among}
+use Rattle.sd_findings.specs.Marks.{marks}
 use Rattle.sd_sieve.specs.declared.reads.Looked.{Looked}
 
 -- the request or attempt that an entry may serve while it is open

@@ -2,15 +2,15 @@
 ghost use Rattle.std.specs.Prelude.{◌≡◌, ◌<◌, ◌∷◌, [], ℕ, List, length, reverse, take, slice_index_or, IfOk, OnOk, None};
 ghost use Rattle.sd_rules.specs.declared.replies.Entry.{Entry};
 ghost use Rattle.sd_rules.specs.Needed as needed;
-ghost use Rattle.sd_sieve.specs.Briefs as briefs;
-ghost use Rattle.sd_sieve.specs.Findings.{is_among};
+ghost use Rattle.sd_findings.specs.Briefs as briefs;
+ghost use Rattle.sd_findings.specs.Findings.{is_among};
 ghost use Rattle.sd_sieve.specs.Readings as readings;
 
-use crate::briefs::{Brief, Briefs, brief_at, request_again};
-use crate::marks::is_looked_at;
-use crate::numbers::{Numbers, has, note};
 use indexmap::IndexSet;
 use sd_base::Memory;
+use sd_findings::briefs::{Brief, Briefs, brief_at, request_again};
+use sd_findings::marks::is_looked_at;
+use sd_findings::numbers::{Numbers, has, note};
 use sd_journal::past::is_closed;
 use sd_needs::needs::read_with;
 use sd_needs::requests::{is_again, is_last_again};

@@ -4,10 +4,10 @@ ghost use Rattle.sd_rules.specs.declared.events.Event.{Event};
 ghost use Rattle.sd_rules.specs.declared.replies.Entry.{Entry};
 ghost use Rattle.sd_rules.specs.Needed as needed;
 ghost use Rattle.sd_voids.specs.Entries.{falls};
-ghost use Rattle.sd_sieve.specs.Findings as findings;
+ghost use Rattle.sd_findings.specs.Findings as findings;
 
-use crate::covers::{is_before, number_for};
-use crate::findings::Findings;
+use sd_findings::covers::{is_before, number_for};
+use sd_findings::findings::Findings;
 use sd_needs::readings::is_number;
 use sd_rules::{Entry, Event, What};
 

@@ -2,7 +2,7 @@ use Rattle.std.proofs.Common.{◌≡◌, ℕ, Bool, true, false, ◌||◌, List,
 use Rattle.sd_rules.specs.declared.replies.Entry.{Entry}
 use Rattle.sd_rules.specs.Needed.{is_login_needed, is_wrong_needed, user_logged_in, user_guessed}
 use Rattle.sd_needs.specs.Looks.{is_of_end}
-use Rattle.sd_sieve.proofs.SinceLaws.{stands_at}
+use Rattle.sd_findings.proofs.SinceLaws.{stands_at}
 use Rattle.sd_sieve.proofs.looked.is_of_logins.Goals as goal
 
 second_of : (l w e q : Bool) → l ≡ false → q ≡ w → q ≡ true → q ≡ (l || (w || e))

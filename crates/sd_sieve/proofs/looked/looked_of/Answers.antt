@@ -1,7 +1,7 @@
 use Rattle.std.proofs.Common.{rules, ◌≡◌, ℕ, ◌<◌, List, length, reverse, take, get_or, sym, subst}
 use Rattle.sd_rules.specs.declared.replies.Entry.{Entry}
 use Rattle.sd_sieve.specs.Readings.{AreLooked}
-use Rattle.sd_sieve.proofs.CoverLaws.{more_at}
+use Rattle.sd_findings.proofs.CoverLaws.{more_at}
 use Rattle.sd_sieve.proofs.looked.looked_of.Goals as goal
 
 pub loop-place-init : goal.loop-place-init

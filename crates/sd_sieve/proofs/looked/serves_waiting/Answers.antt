@@ -1,6 +1,6 @@
 use Rattle.std.proofs.Common.{ℕ, List, reverse, ◌∙◌, ap}
-use Rattle.sd_sieve.specs.Findings.{is_among}
-use Rattle.sd_sieve.proofs.FindingLaws.{among_awaited}
+use Rattle.sd_findings.specs.Findings.{is_among}
+use Rattle.sd_findings.proofs.FindingLaws.{among_awaited}
 use Rattle.sd_sieve.proofs.looked.serves_waiting.Goals as goal
 
 pub returns : goal.returns

@@ -4,7 +4,7 @@ use Rattle.sd_rules.specs.declared.replies.Entry.{Entry}
 use Rattle.sd_rules.specs.declared.replies.Reply.TheVariants.{Done}
 use Rattle.std.proofs.lemmas.List.{get_or_default}
 use Rattle.sd_sieve.proofs.KeptLaws.{sifted_more, texts_more}
-use Rattle.sd_sieve.proofs.MarkLaws.{needed_long}
+use Rattle.sd_findings.proofs.MarkLaws.{needed_long}
 use Rattle.sd_sieve.proofs.sieve.sift.Goals as goal
 
 pub bounds-marks-place : goal.bounds-marks-place

@@ -1,6 +1,6 @@
 use Rattle.std.proofs.Common.{ℕ, List, reverse, ◌∙◌, ap}
-use Rattle.sd_sieve.specs.Findings.{has_below}
-use Rattle.sd_sieve.proofs.FindingLaws.{after_asking}
+use Rattle.sd_findings.specs.Findings.{has_below}
+use Rattle.sd_findings.proofs.FindingLaws.{after_asking}
 use Rattle.sd_sieve.proofs.voids.is_after_asking.Goals as goal
 
 pub returns : goal.returns

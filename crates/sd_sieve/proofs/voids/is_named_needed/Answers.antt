@@ -2,9 +2,9 @@ use Rattle.std.proofs.Common.{ℕ, Bool, ◌&&◌, ◌||◌, Option, List, rever
 use Rattle.sd_rules.specs.declared.keys.What.{What}
 use Rattle.sd_rules.specs.declared.replies.Entry.{Entry}
 use Rattle.sd_rules.specs.Needed as needed
-use Rattle.sd_sieve.specs.Covers as covers
-use Rattle.sd_sieve.specs.declared.findings.Findings.{Findings}
-use Rattle.sd_sieve.proofs.CoverLaws.{void_needed}
+use Rattle.sd_findings.specs.Covers as covers
+use Rattle.sd_findings.specs.declared.findings.Findings.{Findings}
+use Rattle.sd_findings.proofs.CoverLaws.{void_needed}
 use Rattle.sd_sieve.proofs.voids.is_named_needed.Goals as goal
 
 pub returns : goal.returns

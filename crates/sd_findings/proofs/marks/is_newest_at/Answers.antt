@@ -1,0 +1,11 @@
+use Rattle.std.proofs.Common.{false, arith}
+use Rattle.sd_findings.proofs.MarkLaws.{newest_at, newest_long}
+use Rattle.sd_findings.proofs.marks.is_newest_at.Goals as goal
+
+pub bounds-marks-place : goal.bounds-marks-place
+bounds-marks-place c =
+    let long = newest_long c.args.entries.now c.args.marks.now c.requires.marks in
+    omega (arith, long, c.requires.within)
+
+pub returns : goal.returns
+returns c = newest_at c.args.entries.now c.args.marks.now c.args.place c.args.entry.now false c.requires.marks c.requires.within c.requires.at

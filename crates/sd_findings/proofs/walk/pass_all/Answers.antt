@@ -1,0 +1,14 @@
+use Rattle.std.proofs.Common.{rules, ◌≡◌, ℕ, ◌<◌, List, length, reverse, get_or, sym, subst}
+use Rattle.sd_rules.specs.declared.replies.Entry.{Entry}
+use Rattle.sd_findings.specs.Walks.{IsWalkOf}
+use Rattle.sd_findings.proofs.CoverLaws.{more_at}
+use Rattle.sd_findings.proofs.walk.pass_all.Goals as goal
+
+pub loop-place-preserved : goal.loop-place-preserved
+loop-place-preserved c =
+    let all : List Entry = c.args.whole.entries.now in
+    let e : Entry = c.index-entries-place.result in
+    let place : ℕ = c.loop-place.place in
+    let lt : place < length all = search rules in
+    let at : e ≡ get_or all place e = search rules in
+    λ begun. subst (λ (l : List Entry). IsWalkOf (reverse all) l c.pass.new.walk) (sym (more_at all place e lt at)) (c.in_ok-pass.ensures (c.loop-place.invariant begun))

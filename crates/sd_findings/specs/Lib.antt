@@ -1,0 +1,10 @@
+pub mod Whole
+pub mod Marks
+pub mod Users
+pub mod Falls
+pub mod Outlines
+pub mod Covers
+pub mod Briefs
+pub mod Findings
+pub mod Notes
+pub mod Walks

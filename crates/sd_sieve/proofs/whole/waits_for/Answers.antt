@@ -1,5 +1,0 @@
-use Rattle.std.proofs.Common.{reverse}
-use Rattle.sd_sieve.proofs.whole.waits_for.Goals as goal
-
-pub returns : goal.returns
-returns c = c.waits_for.ensures (reverse c.args.whole.entries.now) c.requires
