@@ -1,13 +1,1 @@
 pub mod Statuses
-pub mod TaskLaws
-pub mod KnownLaws
-pub mod ReplyLaws
-pub mod Counting
-pub mod Output
-pub mod ServerLaws
-pub mod RoomLaws
-pub mod SettledLaws
-pub mod RestLaws
-pub mod MoveLaws
-pub mod BoundLaws
-pub mod LineLaws

@@ -2,8 +2,9 @@
 use Rattle.std.proofs.Common.{◌≡◌, ◌⊎◌, ℕ, Bool, true, false, List, Option, Some, None, arith}
 use Rattle.sd_tools.specs.declared.endings.TheConstants.{WRITE_FAULT}
 use Rattle.sd_layout.specs.Faults.{first_bad}
-use Rattle.sd_scenario.specs.Transcript.{Transcript, transcript}
-use Rattle.sd_scenario.specs.Endings.{IsStatus, ending_by_bad, ending_by_lines, ending_by_journal}
+use Rattle.sd_world.specs.Endings.{ending_by_bad, ending_by_lines, ending_by_journal}
+use Rattle.sd_world.specs.Transcript.{Transcript, transcript}
+use Rattle.sd_scenario.specs.Endings.{IsStatus}
 
 by_journal : (is_full : Bool) (text : List ℕ) → IsStatus (ending_by_journal is_full text).status
 by_journal true text = grind arith

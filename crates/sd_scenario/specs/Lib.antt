@@ -1,9 +1,1 @@
-pub mod Courses
-pub mod Clients
-pub mod Past
-pub mod Modes
-pub mod Tasks
-pub mod Prints
-pub mod Transcript
 pub mod Endings
-pub mod Stops

@@ -6,13 +6,14 @@ ghost use Rattle.sd_base.specs.Written.{AppendsFront};
 ghost use Rattle.sd_scenario.specs.Endings as endings;
 ghost use Rattle.sd_tools.specs.Endings as tools;
 ghost use Rattle.sd_layout.specs.Faults as lines;
-ghost use Rattle.sd_scenario.specs.Transcript as script;
+ghost use Rattle.sd_world.specs.Endings as played;
+ghost use Rattle.sd_world.specs.Transcript as script;
 
-use crate::endings::{JOURNAL_FULL, LIMIT, ending_of};
 use sd_base::{Memory, ReadEnd, Sink, Source, read_all};
 use sd_tools::endings::{
     BAD_LINE, DONE, NO_MEMORY, READ_FAULT, Status, TOO_LONG, USAGE, WRITE_FAULT, end,
 };
+use sd_world::{JOURNAL_FULL, LIMIT, ending_of};
 use std::alloc::Global;
 
 /// Whether the words are the one word `scenario`.
@@ -25,7 +26,7 @@ fn is_scenario(words: &[String]) -> bool
     word.as_bytes() == b"scenario".as_slice()
 }
 
-#[tactic(auto, using(crate::proofs::Statuses::ending_is_status, crate::proofs::LineLaws::transcript_bounded))]
+#[tactic(auto, using(crate::proofs::Statuses::ending_is_status, sd_world::proofs::LineLaws::transcript_bounded))]
 /// Carries out the scenario that the source gives, and writes what it prints to the sink.
 pub fn scenario<S: Source, W: Sink>(
     alloc: Global,
@@ -88,7 +89,7 @@ pub fn scenario<S: Source, W: Sink>(
     ensures complete { IfSome (S.left source.old) (λ text.
         endings.is_scenario (map string_bytes words.now) ≡ true → length text ≤ LIMIT → lines.first_bad text ≡ None →
         ¬ (Rose (S.faults source.old) (S.faults source.new)) → ¬ (Rose (W.faults sink.old) (W.faults sink.new)) → result ≢ NO_MEMORY →
-        result ≡ endings.status_by_journal (script.transcript text).is_full) }
+        result ≡ played.status_by_journal (script.transcript text).is_full) }
 {
     if !is_scenario(words) {
         return end(sink, USAGE, b"usage\n");

@@ -15,8 +15,6 @@ use Rattle.sd_ldif.specs.declared.LdifFault.{LdifFault}
 use Rattle.sd_netgroup.specs.Endings as nets
 use Rattle.sd_netgroup.specs.Words.{question_of}
 use Rattle.sd_scenario.specs.Endings as ends
-use Rattle.sd_scenario.specs.Transcript as script
-use Rattle.sd_scenario.specs.declared.endings.TheConstants.{LIMIT, JOURNAL_FULL}
 use Rattle.sd_server.specs.HostStores as stores
 use Rattle.sd_server.specs.Refusals as refusals
 use Rattle.sd_server.specs.declared.beginning.TheConstants.{BAD_STORE, DOOR_FAULT, REFUSED, STORE_FAULT}
@@ -31,6 +29,9 @@ use Rattle.sd_tools.specs.Replies as replies
 use Rattle.sd_tools.specs.declared.endings.TheConstants.{DONE, BAD_LINE, READ_FAULT, WRITE_FAULT, NO_MEMORY, TOO_LONG, NO_DAEMON, BAD_REPLY}
 use Rattle.sd_wire.specs.Frames.{is_sound}
 use Rattle.sd_wire.specs.declared.requests.TheConstants.{LONGEST_PASSWORD}
+use Rattle.sd_world.specs.Endings as played
+use Rattle.sd_world.specs.Transcript as script
+use Rattle.sd_world.specs.declared.endings.TheConstants.{LIMIT, JOURNAL_FULL}
 
 -- a text is printed, and nothing is read
 pub record Prints {S W : Type 0} (held : W → Option (List ℕ)) (text : List ℕ) (source source' : S) (sink sink' : W) (status : ℕ) : Type 0 where
@@ -62,7 +63,7 @@ pub record Plays {S W : Type 0} (left : S → Option (List ℕ)) (read_faults : 
   -- lines that all have forms, within 16 MiB, with no fault counted, are done or end by a full journal
   pub complete : IfSome (left source) (λ text. length text ≤ LIMIT → lines.first_bad text ≡ None
       → ¬ (Rose (read_faults source) (read_faults source')) → ¬ (Rose (write_faults sink) (write_faults sink'))
-      → status ≢ NO_MEMORY → status ≡ ends.status_by_journal (script.transcript text).is_full)
+      → status ≢ NO_MEMORY → status ≡ played.status_by_journal (script.transcript text).is_full)
 
 -- `idmap`: the lines of the input are answered.
 pub record Numbers {S W : Type 0} (left : S → Option (List ℕ)) (read_faults : S → ℕ) (held : W → Option (List ℕ)) (write_faults : W → ℕ)

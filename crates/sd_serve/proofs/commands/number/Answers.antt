@@ -6,7 +6,7 @@ use Rattle.sd_idmap.specs.Endings as ids
 use Rattle.sd_idmap.specs.Lines as lines
 use Rattle.sd_serve.proofs.Spoken.{is_the_word_of_ids}
 use Rattle.sd_serve.proofs.Played.{known_by}
-use Rattle.sd_scenario.specs.declared.endings.TheConstants.{LIMIT}
+use Rattle.sd_world.specs.declared.endings.TheConstants.{LIMIT}
 use Rattle.sd_tools.specs.declared.endings.TheConstants.{DONE, NO_MEMORY}
 use Rattle.sd_serve.proofs.commands.number.Goals as goal
 

@@ -4,9 +4,10 @@ use Rattle.sd_base.specs.Causes.{Rose}
 use Rattle.sd_base.specs.Written.{AppendsFront}
 use Rattle.sd_layout.specs.Faults as lines
 use Rattle.sd_scenario.specs.Endings as ends
-use Rattle.sd_scenario.specs.Transcript as script
-use Rattle.sd_scenario.specs.declared.endings.TheConstants.{LIMIT}
 use Rattle.sd_tools.specs.declared.endings.TheConstants.{NO_MEMORY}
+use Rattle.sd_world.specs.Endings as played
+use Rattle.sd_world.specs.Transcript as script
+use Rattle.sd_world.specs.declared.endings.TheConstants.{LIMIT}
 use Rattle.sd_serve.proofs.Spoken.{is_the_word}
 use Rattle.sd_serve.proofs.Played.{known_by}
 use Rattle.sd_serve.proofs.commands.play.Goals as goal
@@ -30,9 +31,9 @@ returns-clause-plays g c =
       complete = known_by (g.S.Source.left c.args.source.now)
           (λ text. ends.is_scenario (map string_bytes c.args.words.now) ≡ true → length text ≤ LIMIT → lines.first_bad text ≡ None
           → ¬ (Rose (g.S.Source.faults c.args.source.now) (g.S.Source.faults c.scenario.new.source)) → ¬ (Rose (g.W.Sink.faults c.args.sink.now) (g.W.Sink.faults c.scenario.new.sink))
-          → c.scenario.result ≢ NO_MEMORY → c.scenario.result ≡ ends.status_by_journal (script.transcript text).is_full)
+          → c.scenario.result ≢ NO_MEMORY → c.scenario.result ≡ played.status_by_journal (script.transcript text).is_full)
           (λ text. length text ≤ LIMIT → lines.first_bad text ≡ None
           → ¬ (Rose (g.S.Source.faults c.args.source.now) (g.S.Source.faults c.scenario.new.source)) → ¬ (Rose (g.W.Sink.faults c.args.sink.now) (g.W.Sink.faults c.scenario.new.sink))
-          → c.scenario.result ≢ NO_MEMORY → c.scenario.result ≡ ends.status_by_journal (script.transcript text).is_full)
+          → c.scenario.result ≢ NO_MEMORY → c.scenario.result ≡ played.status_by_journal (script.transcript text).is_full)
           (λ text f. f is) c.scenario.ensures.complete;
     }
