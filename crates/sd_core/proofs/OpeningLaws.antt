@@ -19,7 +19,7 @@ use Rattle.sd_rules.specs.Steps.{Daemon}
 use Rattle.sd_rules.specs.TextBytes.{bytes_of_row, text_bytes}
 use Rattle.sd_forgetting.proofs.Opened.{rows_orderly}
 use Rattle.sd_forgetting.proofs.Orders.{orderly_first}
-use Rattle.sd_core.specs.Noted.{HadCounts}
+use Rattle.sd_books.specs.Noted.{HadCounts}
 use Rattle.sd_core.specs.Laws.{IsKept, are_asked_since, are_own_outages}
 use Rattle.sd_core.specs.Sound as sound
 use Rattle.sd_core.specs.Sound.{all_name_earlier, moments_rise, falls_from, holds_kind, holds_kinds, row_holders, closes_once, IsSound}

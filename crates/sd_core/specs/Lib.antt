@@ -1,4 +1,3 @@
-pub mod Bounds
 pub mod Numbered
 pub mod Opens
 pub mod Sound
@@ -7,5 +6,3 @@ pub mod Laws
 pub mod Held
 pub mod Growth
 pub mod Lists
-pub mod Ruled
-pub mod Noted

@@ -7,8 +7,8 @@ ghost use Rattle.sd_rules.specs.Past as answers;
 ghost use Rattle.sd_rules.specs.TextBytes as bytes;
 ghost use Rattle.sd_journal.specs.Seen as seen;
 
-use crate::rulings::Ruling;
 use sd_base::{Copied, Memory, Text, Texts};
+use sd_books::Ruling;
 use sd_hbac::simple;
 use sd_journal::past::Standing;
 use sd_past::Past;

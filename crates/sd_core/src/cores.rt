@@ -15,12 +15,11 @@ ghost use Rattle.sd_core.specs.Opens as opens;
 ghost use Rattle.sd_core.specs.Sound as sound;
 ghost use Rattle.sd_core.specs.declared.cores.OpenFault.TheVariants as faults;
 
-use crate::books::{LoginBook, NoBook, UserBook};
 use crate::given::given_by;
 use crate::opens::is_open;
 use crate::replies::{reply_to, reply_to_collect};
-use crate::rulings::{Compiled, Ruling, Unkept, keep, ruling_by};
 use sd_base::Memory;
+use sd_books::{Compiled, LoginBook, NoBook, Ruling, Unkept, UserBook, keep, ruling_by};
 use sd_journal::requests::is_took;
 use sd_keeping::{OpenJournal, bad_row, opened};
 use sd_past::{Forgotten, IndexedPast, ListedPast, Past};

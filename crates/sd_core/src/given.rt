@@ -113,7 +113,7 @@ fn rule_named(entries: &[Entry], reply: Reply) -> Option<&Text>
 }
 
 /// A copy of what is there.
-pub fn copy_of<T: Copied>(item: Option<&T>) -> Result<Option<T>, Memory>
+fn copy_of<T: Copied>(item: Option<&T>) -> Result<Option<T>, Memory>
     ensures made { IfOk result (λ copy. copy ≡ option_copied item.entry) }
     ensures free { option_copied item.entry ≡ None → IsOk result }
 {

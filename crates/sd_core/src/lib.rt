@@ -2,15 +2,12 @@
 #![tactic(auto)]
 
 pub mod access;
-pub mod books;
 pub mod cores;
 pub mod daemon;
 pub mod given;
 pub mod lists;
-pub mod notes;
 pub mod opens;
 pub mod replies;
-pub mod rulings;
 
 pub use cores::{EntryCore, IndexedCore, Look, OpenFault, PlainCore};
 pub use daemon::Core;

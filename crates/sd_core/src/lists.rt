@@ -8,11 +8,10 @@ ghost use Rattle.sd_core.specs.Laws as laws;
 ghost use Rattle.sd_core.specs.Lists as lists;
 ghost use Rattle.sd_core.specs.declared.lists.ListFault.TheVariants as faults;
 
-use crate::books::LoginBook;
 use crate::cores::EntryCore;
 use crate::daemon::Core;
-use crate::rulings::Ruling;
 use sd_base::{Copied, Items, Memory};
+use sd_books::{LoginBook, Ruling};
 use sd_past::Past;
 use sd_rules::{Event, Given, Refused, StepFault};
 use std::alloc::Global;

@@ -9,10 +9,9 @@ ghost use Rattle.sd_journal.specs.Seen as seen;
 ghost use Rattle.sd_core.specs.Numbered as replies;
 
 use crate::access::access_of;
-use crate::books::LoginBook;
 use crate::opens::is_open;
-use crate::rulings::Ruling;
 use sd_base::{Memory, Text};
+use sd_books::{LoginBook, Ruling};
 use sd_journal::answers::is_found;
 use sd_journal::logins::user_of;
 use sd_journal::past::{Standing, key_of, voids};

@@ -4,7 +4,7 @@ use Rattle.sd_ldap.specs.declared.entry.DirEntry.{DirEntry}
 use Rattle.sd_ldif.specs.declared.LdifFault.{LdifFault}
 use Rattle.sd_ldif.specs.declared.LdifFault.TheVariants as faults
 use Rattle.sd_ldif.specs.Records.{ldif_of}
-use Rattle.sd_stub.specs.Keeping.{kept}
+use Rattle.sd_places.specs.Keeping.{kept}
 use Rattle.sd_ldap_server.specs.declared.refusals.Stop.{Stop}
 use Rattle.sd_ldap_server.specs.declared.refusals.Stop.TheVariants as stops
 use Rattle.sd_wire.specs.Forms.{numbered}

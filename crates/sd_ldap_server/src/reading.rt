@@ -2,7 +2,7 @@
 ghost use Rattle.std.specs.Prelude.{◌≡◌, ◌≤◌, length, IfErr, IfOk, IfSome, Err};
 ghost use Rattle.sd_base.specs.Causes.{Rose};
 ghost use Rattle.sd_ldap_server.specs.Refusals as refusals;
-ghost use Rattle.sd_stub.specs.Keeping.{kept};
+ghost use Rattle.sd_places.specs.Keeping.{kept};
 
 use crate::refusals::Stop;
 use sd_base::{Copied, Memory, ReadEnd, Source, read_all};

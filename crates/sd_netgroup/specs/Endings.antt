@@ -7,7 +7,7 @@ use Rattle.sd_inputs.specs.Endings.{too_long}
 use Rattle.sd_inputs.specs.Inputs.{IsConfig, AreEntries, AreTooLong, AreRefused}
 use Rattle.sd_ldap.specs.declared.entry.DirEntry.{DirEntry}
 use Rattle.sd_dial.specs.Entries.{Behind, shortest}
-use Rattle.sd_stub.specs.Keeping.{kept}
+use Rattle.sd_places.specs.Keeping.{kept}
 use Rattle.sd_tools.specs.declared.endings.TheConstants.{DONE, USAGE, READ_FAULT, WRITE_FAULT, NO_MEMORY, TOO_LONG}
 use Rattle.sd_triples.specs.declared.triples.Triple.{Triple}
 use Rattle.sd_netgroup.specs.declared.asking.Netted.{Netted}

@@ -3,7 +3,7 @@ ghost use Rattle.std.specs.Prelude.{◌≡◌, ℕ, List, [], ◌⊎◌, true, I
 ghost use Rattle.sd_base.specs.declared.Why.TheVariants as whys;
 ghost use Rattle.sd_ldap.specs.declared.entry.DirEntry.{DirEntry as DirEntryValue};
 ghost use Rattle.sd_dial.specs.Rooms.{are_short};
-ghost use Rattle.sd_stub.specs.Keeping.{kept};
+ghost use Rattle.sd_places.specs.Keeping.{kept};
 ghost use Rattle.sd_stub.specs.declared.Mode.TheVariants as modes;
 ghost use Rattle.sd_stub_link.specs.Distinct.{have_own_dns};
 ghost use Rattle.sd_stub_link.specs.Standing.{made};

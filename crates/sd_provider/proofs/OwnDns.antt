@@ -8,7 +8,7 @@ use Rattle.sd_dn.specs.declared.Pair.{Pair}
 use Rattle.sd_dn.specs.Comparing.{same_list, same_text, same_pair, same_rdn, same_dn}
 use Rattle.sd_dn.specs.Texts.{spelled, both_meet, same_dn_text}
 use Rattle.sd_ldap.specs.declared.entry.DirEntry.{DirEntry}
-use Rattle.sd_stub.specs.Keeping.{put, removed, kept}
+use Rattle.sd_places.specs.Keeping.{put, removed, kept}
 use Rattle.sd_stub_link.specs.Distinct.{is_own_dn, have_own_dns}
 
 -- ---- what equals one DN equals each that it equals

@@ -5,7 +5,7 @@ use Rattle.std.proofs.lemmas.Bool.{cases_Bool, and_parts, and_from}
 use Rattle.sd_dn.specs.Texts.{same_dn_text}
 use Rattle.sd_ldap.specs.declared.entry.DirEntry.{DirEntry}
 use Rattle.sd_dial.specs.Rooms.{is_short, are_short}
-use Rattle.sd_stub.specs.Keeping.{put, removed, kept}
+use Rattle.sd_places.specs.Keeping.{put, removed, kept}
 
 short_put : (es : List DirEntry) (e : DirEntry) → are_short es ≡ true → is_short e ≡ true → are_short (put es e) ≡ true
 unfolding are_short

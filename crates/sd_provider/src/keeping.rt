@@ -2,7 +2,7 @@
 ghost use Rattle.std.specs.Prelude.{◌≡◌, true, IfOk, OnOk, OnErr};
 ghost use Rattle.sd_dial.specs.Rooms.{is_short, are_short};
 ghost use Rattle.sd_stub_link.specs.Distinct.{have_own_dns};
-ghost use Rattle.sd_stub.specs.Keeping.{put, put_all, removed, kept};
+ghost use Rattle.sd_places.specs.Keeping.{put, put_all, removed, kept};
 
 use crate::room::{are_short, is_short};
 use sd_base::{Copied, Memory, Text};

@@ -1,11 +1,3 @@
-mod Names
-mod Places
-mod Covering
-mod Rising
-mod Slots
-mod Hashing
-mod Indexing
-mod Near
 mod Replies
 mod Hearing
 mod Passing

@@ -12,7 +12,7 @@ use Rattle.sd_ldap.specs.declared.entry.DirEntry.{DirEntry}
 use Rattle.sd_ldap.specs.Values.{SearchValue, MessageValue, entry, done}
 use Rattle.sd_ldap.specs.Spelling.{message_bytes}
 use Rattle.sd_match.specs.Answering.{told, reply, sent, is_past_limit, limited, search_code, is_found, found, found_replies, is_at_or_under}
-use Rattle.sd_stub.specs.Covers.{AreEnough, picked, present, at_slot, with_some}
+use Rattle.sd_places.specs.Covers.{AreEnough, picked, present, at_slot, with_some}
 use Rattle.sd_stub.specs.Replying.{bytes_at, left_at, entry_reply, entries_bytes, done_bytes, alone_bytes, next_bytes, next_left, supported_bytes, search_bytes}
 
 entries_then : (id : ℕ) (s : SearchValue) (entries : List DirEntry) (last : MessageValue)

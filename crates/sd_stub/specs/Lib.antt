@@ -1,8 +1,3 @@
-pub mod Keeping
-pub mod Covers
-pub mod Naming
-pub mod Numbers
-pub mod Index
 pub mod Faults
 pub mod Replying
 pub mod Saying

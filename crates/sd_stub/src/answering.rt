@@ -5,22 +5,19 @@ ghost use Rattle.sd_ldap.specs.declared.entry.DirEntry.{DirEntry};
 ghost use Rattle.sd_ldap.specs.Values.{message_value, operation_value, search_value};
 ghost use Rattle.sd_ldap.specs.Spelling.{message_bytes};
 ghost use Rattle.sd_match.specs.Answering.{told, is_found, found, found_replies, replies_by, reply_bytes};
-ghost use Rattle.sd_stub.specs.Covers.{AreEnough, picked, at_slot, present};
-ghost use Rattle.sd_stub.specs.Index.{IsIndex};
-ghost use Rattle.sd_stub.specs.Naming.{AreNamed};
+ghost use Rattle.sd_places.specs.Covers.{AreEnough, picked, at_slot, present};
+ghost use Rattle.sd_places.specs.Index.{IsIndex};
+ghost use Rattle.sd_places.specs.Naming.{AreNamed};
 ghost use Rattle.sd_stub.specs.Replying.{PutsNext, PutsAt, entry_reply, entries_bytes, done_bytes, alone_bytes, bind_bytes, supported_bytes, search_bytes};
 
 use crate::binding::bind_code;
-use crate::index::Index;
-use crate::keeping::{Names, place_of};
-use crate::narrowing::{has_base_in, narrowest};
-use crate::placed::Placed;
 use crate::searching::{count_found, is_found};
 use crate::sending::sent;
 use sd_base::{Memory, Text};
 use sd_dn::{Dn, spelled};
 use sd_ldap::{LdapResult, Message, Operation, SearchRequest, write_message};
 use sd_match::has_unsupported;
+use sd_places::{Index, Names, Placed, has_base_in, narrowest, place_of};
 use std::alloc::Global;
 
 fn told(alloc: Global, code: u32) -> Result<LdapResult, Memory>
@@ -168,7 +165,7 @@ fn found_bytes(
 }
 
 /// The replies to a search of the base alone.
-#[tactic(auto, using(crate::proofs::Slots::alone_enough, crate::proofs::Slots::nowhere_enough))]
+#[tactic(auto, using(sd_places::proofs::Slots::alone_enough, sd_places::proofs::Slots::nowhere_enough))]
 fn base_bytes(
     alloc: Global,
     id: u32,

@@ -6,15 +6,14 @@ ghost use Rattle.sd_dn.specs.Comparing.{same_dn};
 ghost use Rattle.sd_dn.specs.Texts.{spelled, both_meet, same_dn_text};
 ghost use Rattle.sd_match.specs.Answering.{same_bytes, is_password, has_password, is_right, bind_code};
 ghost use Rattle.sd_ldap.specs.declared.entry.DirEntry.{DirEntry};
-ghost use Rattle.sd_stub.specs.Covers.{at_slot, passes_at, present};
-ghost use Rattle.sd_stub.specs.Naming.{AreNamed};
+ghost use Rattle.sd_places.specs.Covers.{at_slot, passes_at, present};
+ghost use Rattle.sd_places.specs.Naming.{AreNamed};
 
-use crate::keeping::{Names, place_of};
-use crate::placed::Placed;
 use sd_base::{Memory, Text};
 use sd_dn::compare::same_text;
 use sd_dn::{Dn, spelled};
 use sd_ldap::{Attribute, DirEntry};
+use sd_places::{Names, Placed, place_of};
 use std::alloc::Global;
 
 pub fn is_password(attribute: &Attribute) -> bool
@@ -62,7 +61,7 @@ fn accepts_at(slots: &[Option<Placed>], place: usize, name: &Option<Dn>, passwor
 }
 
 /// Whether a password is right for the entry of a DN.
-#[tactic(auto, using(crate::proofs::Slots::right_alone, crate::proofs::Slots::right_nowhere))]
+#[tactic(auto, using(sd_places::proofs::Slots::right_alone, sd_places::proofs::Slots::right_nowhere))]
 fn is_right(
     alloc: Global,
     slots: &[Option<Placed>],

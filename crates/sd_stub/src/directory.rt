@@ -6,20 +6,20 @@ ghost use Rattle.sd_ldap.specs.declared.entry.DirEntry.{DirEntry};
 ghost use Rattle.sd_ldap.specs.Values.{message_value};
 ghost use Rattle.sd_ldap.specs.MessageReading.{whole};
 ghost use Rattle.sd_match.specs.Answering.{answer_to, answer_decoded, reply_bytes};
-ghost use Rattle.sd_stub.specs.Covers.{present};
-ghost use Rattle.sd_stub.specs.Index.{IsIndex};
-ghost use Rattle.sd_stub.specs.Keeping.{put, removed, kept};
-ghost use Rattle.sd_stub.specs.Naming.{AreNamed};
+ghost use Rattle.sd_places.specs.Covers.{present};
+ghost use Rattle.sd_places.specs.Index.{IsIndex};
+ghost use Rattle.sd_places.specs.Keeping.{put, removed, kept};
+ghost use Rattle.sd_places.specs.Naming.{AreNamed};
 ghost use Rattle.sd_stub.specs.Faults.{fault_of, fault_in, Tells};
 
 use crate::answering::replies;
 use crate::fault::StubFault;
-use crate::index::{Index, index_of};
-use crate::keeping::{Names, by_name, clear, fill, keep_place, place_of};
-use crate::placed::{Placed, Slots};
 use sd_base::{Memory, Text};
 use sd_dn::{Dn, spelled};
 use sd_ldap::{Decoded, DirEntry, Message, decode};
+use sd_places::{
+    Index, Names, Placed, Slots, by_name, clear, fill, index_of, keep_place, place_of,
+};
 use std::alloc::Global;
 use std::marker::Model;
 
@@ -54,9 +54,9 @@ impl Drop for Directory {
 impl Model for Directory {
     ghost use Rattle.std.specs.Prelude.{List};
     ghost use Rattle.sd_ldap.specs.declared.entry.DirEntry.{DirEntry};
-    ghost use Rattle.sd_stub.specs.Covers.{present};
-    ghost use Rattle.sd_stub.specs.Index.{IsIndex};
-    ghost use Rattle.sd_stub.specs.Naming.{AreNamed};
+    ghost use Rattle.sd_places.specs.Covers.{present};
+    ghost use Rattle.sd_places.specs.Index.{IsIndex};
+    ghost use Rattle.sd_places.specs.Naming.{AreNamed};
 
     ghost Value = { List DirEntry };
 

@@ -3,7 +3,7 @@ use Rattle.std.specs.Prelude.{IfSome}
 use Rattle.std.specs.Io.KnownBytes.{Appends}
 use Rattle.std.proofs.Common.{◌≡◌, ◌≢◌, ℕ, List, Option, Some, Result, refl, sym, subst, arith}
 use Rattle.sd_ldap.specs.declared.entry.DirEntry.{DirEntry}
-use Rattle.sd_stub.specs.Keeping.{kept}
+use Rattle.sd_places.specs.Keeping.{kept}
 use Rattle.sd_tools.specs.declared.endings.TheConstants.{WRITE_FAULT}
 use Rattle.sd_inputs.specs.declared.inputs.Inputs.{Inputs}
 use Rattle.sd_inputs.specs.declared.inputs.Stop.TheVariants as stops

@@ -2,7 +2,7 @@
 use Rattle.std.specs.Prelude.{◌≡◌, ◌⊎◌, ℕ, List, codes, Option, IfSome, Result}
 use Rattle.sd_conf.specs.declared.config.Config.{Config}
 use Rattle.sd_ldap.specs.declared.entry.DirEntry.{DirEntry}
-use Rattle.sd_stub.specs.Keeping.{kept}
+use Rattle.sd_places.specs.Keeping.{kept}
 use Rattle.sd_tools.specs.declared.endings.TheConstants.{DONE, USAGE, READ_FAULT, WRITE_FAULT, NO_MEMORY, TOO_LONG}
 use Rattle.sd_inputs.specs.declared.endings.TheConstants.{REFUSED}
 use Rattle.sd_inputs.specs.Inputs.{IsConfig, AreEntries, AreTooLong, AreRefused}

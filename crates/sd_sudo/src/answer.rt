@@ -1,6 +1,6 @@
 //! What a directory says of the sudo rules of a user.
 ghost use Rattle.std.specs.Prelude.{◌≡◌, false, IfOk, IfErr};
-ghost use Rattle.sd_stub.specs.Keeping.{kept};
+ghost use Rattle.sd_places.specs.Keeping.{kept};
 ghost use Rattle.sd_sudo.specs.Lookups.{HaltsBy};
 ghost use Rattle.sd_sudo.specs.Answering as answering;
 

@@ -2,7 +2,7 @@
 ghost use Rattle.std.specs.Prelude.{◌≡◌, ◌⊎◌, ◌++◌, ◌∷◌, IfOk, IfErr, OnOk};
 ghost use Rattle.std.specs.Option.{option_copied};
 ghost use Rattle.sd_rules.specs.declared.keys.Key.TheVariants as keys;
-ghost use Rattle.sd_stub.specs.Keeping.{kept};
+ghost use Rattle.sd_places.specs.Keeping.{kept};
 ghost use Rattle.sd_sudo.specs.Listing.{listed};
 ghost use Rattle.sd_sudo.specs.Lookups.{HaltsBy, Meets, Passes};
 ghost use Rattle.sd_sudo.specs.Askers as askers;

@@ -1,6 +1,6 @@
 //! Lookups in a directory in memory.
 ghost use Rattle.std.specs.Prelude.{◌≡◌, IfOk, IfErr};
-ghost use Rattle.sd_stub.specs.Keeping.{kept};
+ghost use Rattle.sd_places.specs.Keeping.{kept};
 ghost use Rattle.sd_sudo.specs.Lookups as lookups;
 
 use sd_base::{Memory, Shared};

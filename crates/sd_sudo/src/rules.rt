@@ -1,7 +1,7 @@
 //! The rules of a directory that apply to one who asks.
 ghost use Rattle.std.specs.Prelude.{◌≡◌, true, IfOk, IfErr};
 ghost use Rattle.sd_dial.specs.Rooms.{are_short};
-ghost use Rattle.sd_stub.specs.Keeping.{kept};
+ghost use Rattle.sd_places.specs.Keeping.{kept};
 ghost use Rattle.sd_stub_link.specs.Distinct.{have_own_dns};
 ghost use Rattle.sd_sudo.specs.Lookups.{HaltsBy};
 ghost use Rattle.sd_sudo.specs.Speaking as speaking;

@@ -15,7 +15,7 @@ use Rattle.sd_layout.specs.Faults.{config_of}
 use Rattle.sd_layout.specs.Head.{Head, head_of}
 use Rattle.sd_stub.specs.declared.Mode.{Mode}
 use Rattle.sd_layout.specs.Entries.{user_entry, group_entry, host_entry, service_entry, rule_entry, dn_of}
-use Rattle.sd_stub.specs.Keeping.{put, put_all, removed}
+use Rattle.sd_places.specs.Keeping.{put, put_all, removed}
 use Rattle.sd_world.specs.Clients.{begun}
 use Rattle.sd_world.specs.Courses.{Course, LoginWords, lookup, login, check}
 use Rattle.sd_world.specs.Prints.{full_line, journal_text}

@@ -8,7 +8,7 @@ ghost use Rattle.sd_rules.specs.Steps as steps;
 ghost use Rattle.sd_core.specs.Sound.{found_fits};
 ghost use Rattle.sd_world.specs.Clients as clients;
 ghost use Rattle.sd_world.specs.Courses as courses;
-ghost use Rattle.sd_stub.specs.Keeping as keeping;
+ghost use Rattle.sd_places.specs.Keeping as keeping;
 ghost use Rattle.sd_world.specs.Past.{IsKnown, KeepsKeys};
 ghost use Rattle.sd_world.specs.Prints as prints;
 ghost use Rattle.sd_world.specs.Stops.{Fails, Halts};

@@ -6,7 +6,7 @@ ghost use Rattle.sd_rules.specs.Steps.{is_steppable};
 ghost use Rattle.sd_conf.specs.declared.config.Config.{Config};
 ghost use Rattle.sd_layout.specs.Entries.{dn_of};
 ghost use Rattle.sd_layout.specs.Faults.{has_few_servers};
-ghost use Rattle.sd_stub.specs.Keeping as keeping;
+ghost use Rattle.sd_places.specs.Keeping as keeping;
 ghost use Rattle.sd_world.specs.Courses as courses;
 ghost use Rattle.sd_world.specs.Past.{names};
 ghost use Rattle.sd_world.specs.Prints as prints;

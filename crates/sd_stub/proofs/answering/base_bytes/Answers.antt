@@ -1,7 +1,7 @@
 use Rattle.std.proofs.Common.{subst, ℕ, Option}
 use Rattle.sd_ldap.specs.Values.{search_value}
-use Rattle.sd_stub.specs.Naming.{IsPlaceOf}
-use Rattle.sd_stub.proofs.Slots.{alone_enough, nowhere_enough}
+use Rattle.sd_places.specs.Naming.{IsPlaceOf}
+use Rattle.sd_places.proofs.Slots.{alone_enough, nowhere_enough}
 use Rattle.sd_stub.proofs.answering.base_bytes.Goals as goal
 
 pub found_bytes-requires-clause-enough : goal.found_bytes-requires-clause-enough

@@ -1,6 +1,6 @@
 use Rattle.sd_ldap.specs.Values.{search_value}
 use Rattle.sd_match.specs.Answering.{found}
-use Rattle.sd_stub.specs.Covers.{picked}
+use Rattle.sd_places.specs.Covers.{picked}
 use Rattle.sd_stub.proofs.Replies.{found_whole, found_enough}
 use Rattle.sd_stub.proofs.answering.found_bytes.Goals as goal
 

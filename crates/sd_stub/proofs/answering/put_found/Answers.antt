@@ -2,7 +2,7 @@ use Rattle.sd_ldap.specs.Values.{search_value}
 use Rattle.std.proofs.Common.{◌++◌, take, get_or}
 use Rattle.std.proofs.lemmas.List.{drop_more}
 use Rattle.sd_match.specs.Answering.{found}
-use Rattle.sd_stub.specs.Covers.{picked}
+use Rattle.sd_places.specs.Covers.{picked}
 use Rattle.sd_stub.specs.Replying.{entries_bytes}
 use Rattle.sd_stub.proofs.Replies.{one_more}
 use Rattle.sd_stub.proofs.answering.put_found.Goals as goal

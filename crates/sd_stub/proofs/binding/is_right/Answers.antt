@@ -1,6 +1,6 @@
 use Rattle.std.proofs.Common.{subst, ◌∙◌, ℕ, Option}
-use Rattle.sd_stub.specs.Naming.{IsPlaceOf}
-use Rattle.sd_stub.proofs.Slots.{right_alone, right_nowhere}
+use Rattle.sd_places.specs.Naming.{IsPlaceOf}
+use Rattle.sd_places.proofs.Slots.{right_alone, right_nowhere}
 use Rattle.sd_stub.proofs.binding.is_right.Goals as goal
 
 pub returns-in-Some : goal.returns-in-Some

@@ -1,10 +1,10 @@
 use Rattle.std.proofs.Common.{◌≡◌, ◌∙◌, sym, ap, subst, List, Option}
 use Rattle.sd_ldap.specs.declared.entry.DirEntry.{DirEntry}
-use Rattle.sd_stub.specs.Covers.{present}
-use Rattle.sd_stub.specs.Index.{IsIndex}
-use Rattle.sd_stub.specs.Keeping.{put}
-use Rattle.sd_stub.proofs.Indexing.{index_grown}
-use Rattle.sd_stub.proofs.Slots.{grown_present, on_any}
+use Rattle.sd_places.specs.Covers.{present}
+use Rattle.sd_places.specs.Index.{IsIndex}
+use Rattle.sd_places.specs.Keeping.{put}
+use Rattle.sd_places.proofs.Indexing.{index_grown}
+use Rattle.sd_places.proofs.Slots.{grown_present, on_any}
 use Rattle.sd_stub.proofs.directory.put_placed.Goals as goal
 
 pub returns-in_err-place-clause-index : goal.returns-in_err-place-clause-index

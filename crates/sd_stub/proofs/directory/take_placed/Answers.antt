@@ -1,9 +1,9 @@
 use Rattle.std.proofs.Common.{sym, subst, List, ℕ, Option}
 use Rattle.sd_ldap.specs.declared.entry.DirEntry.{DirEntry}
-use Rattle.sd_stub.specs.Index.{IsIndex}
-use Rattle.sd_stub.specs.Naming.{IsNowhere, IsPlaceOf}
-use Rattle.sd_stub.proofs.Indexing.{index_cleared}
-use Rattle.sd_stub.proofs.Slots.{nowhere_stays}
+use Rattle.sd_places.specs.Index.{IsIndex}
+use Rattle.sd_places.specs.Naming.{IsNowhere, IsPlaceOf}
+use Rattle.sd_places.proofs.Indexing.{index_cleared}
+use Rattle.sd_places.proofs.Slots.{nowhere_stays}
 use Rattle.sd_stub.proofs.directory.take_placed.Goals as goal
 
 pub returns-in-Some-clause-index : goal.returns-in-Some-clause-index

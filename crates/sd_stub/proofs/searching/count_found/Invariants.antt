@@ -1,7 +1,7 @@
 use Rattle.std.proofs.Common.{◌≡◌, ◌≤◌, ◌+◌, length, drop}
 use Rattle.sd_ldap.specs.Values.{search_value}
 use Rattle.sd_match.specs.Answering.{found}
-use Rattle.sd_stub.specs.Covers.{picked}
+use Rattle.sd_places.specs.Covers.{picked}
 use Rattle.sd_stub.proofs.searching.count_found.Given as goal
 
 -- those found so far, and those that are left

@@ -9,7 +9,7 @@ use Rattle.sd_core.specs.Held.{daemon_of}
 use Rattle.sd_core.specs.Laws.{IsKept}
 use Rattle.sd_core.specs.Sound.{IsSound}
 use Rattle.sd_core.proofs.HeldLaws.{counts_if_sound, falls_below, held_after}
-use Rattle.sd_core.proofs.RuledLaws.{says_then}
+use Rattle.sd_books.proofs.RuledLaws.{says_then}
 use Rattle.sd_core.proofs.cores.EntryCore.append.Goals as goal
 
 pub put-requires-clause-numbers : goal.put-requires-clause-numbers

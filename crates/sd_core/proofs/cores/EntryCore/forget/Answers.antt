@@ -1,6 +1,6 @@
 use Rattle.sd_forgetting.proofs.Forgets.{needed_kept}
 use Rattle.sd_core.proofs.HeldLaws.{held_forgotten}
-use Rattle.sd_core.proofs.RuledLaws.{says_forgotten}
+use Rattle.sd_books.proofs.RuledLaws.{says_forgotten}
 use Rattle.sd_core.proofs.cores.EntryCore.forget.Goals as goal
 
 pub forget-requires-clause-shown : goal.forget-requires-clause-shown

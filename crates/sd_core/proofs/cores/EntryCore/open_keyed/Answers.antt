@@ -10,11 +10,11 @@ use Rattle.sd_rules.specs.TextBytes.{text_bytes}
 use Rattle.sd_core.specs.Held.{daemon_of}
 use Rattle.sd_core.specs.Laws.{IsKept}
 use Rattle.sd_core.specs.Looks.{has_stopped}
-use Rattle.sd_core.specs.Noted.{HadCounts}
+use Rattle.sd_books.specs.Noted.{HadCounts}
 use Rattle.sd_core.specs.Sound.{IsSound}
 use Rattle.sd_core.proofs.HeldLaws.{falls_if_sound, held_at_first, next_at_first}
 use Rattle.sd_core.proofs.OpeningLaws.{bad_row_within, counted_at_first, kept_at_first, sound_at_first}
-use Rattle.sd_core.proofs.RuledLaws.{opened_below}
+use Rattle.sd_books.proofs.RuledLaws.{opened_below}
 use Rattle.sd_core.proofs.cores.EntryCore.open_keyed.Goals as goal
 
 pub overflow_cast-result : goal.overflow_cast-result

@@ -1,5 +1,5 @@
 use Rattle.std.proofs.Common.{◌≡◌, drop}
-use Rattle.sd_stub.specs.Keeping.{put_all}
+use Rattle.sd_places.specs.Keeping.{put_all}
 use Rattle.sd_provider.proofs.keeping.ShortDirectory.put_all.Given as goal
 
 -- the entries left decide

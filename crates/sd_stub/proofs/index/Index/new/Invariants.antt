@@ -1,5 +1,0 @@
-use Rattle.std.proofs.Common.{◌≡◌, ◌+◌, [], replicate}
-use Rattle.sd_stub.proofs.index.Index.new.Given as goal
-
-abbrev pub invariant-loop : goal.invariant-loop
-invariant-loop l = l.buckets.items ≡ replicate (l.counter + 1) []

@@ -1,6 +1,0 @@
-use Rattle.std.proofs.Common.{take}
-use Rattle.sd_stub.specs.Index.{IsIndex}
-use Rattle.sd_stub.proofs.index.index_of.Given as goal
-
-abbrev pub invariant-loop-place : goal.invariant-loop-place
-invariant-loop-place l = IsIndex l.index (take l.place l.slots)
