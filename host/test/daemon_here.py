@@ -164,6 +164,12 @@ class Daemon:
         with open("/proc/%d/smaps_rollup" % self.process.pid, encoding="ascii") as rollup:
             return next(int(line.split()[1]) for line in rollup if line.startswith("Pss:"))
 
+    def arenas(self):
+        """How many arenas of the C library's allocator its threads have: each begins at a multiple of 64 MiB."""
+        with open("/proc/%d/maps" % self.process.pid, encoding="ascii", errors="replace") as maps:
+            fields = [line.split() for line in maps]
+        return sum(len(found) == 5 and int(found[0].split("-")[0], 16) % (64 << 20) == 0 for found in fields)
+
 
 class Peak(threading.Thread):
     """The most memory that a daemon was seen to have."""
