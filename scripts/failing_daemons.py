@@ -5,7 +5,7 @@
     scripts/failing_daemons.py crates/sd_hosted/stdin | diff - <(sed -n '/^== failing calls: /,$p' crates/sd_hosted/stdout)
 
 prints nothing. It knows nothing of the program: which calls are made on the store, and when, and how a daemon ends, are told in
-docs/DECISIONS.md ("The daemon's store"), the bytes of rows there too ("The keeper"). Each client asks for alice, who is known from the first daemon on."""
+docs/DESIGN.md ("The daemon's store"), the bytes of rows there too ("The keeper"). Each client asks for alice, who is known from the first daemon on."""
 import sys
 
 FLUSHES_EVERY = 60

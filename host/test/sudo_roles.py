@@ -73,7 +73,7 @@ ROLES = [
     ("o-minus-40", -40, ["alice"]),
     ("o-100", 100, ["ALL"]),
 ]
-# Whom a role names by the word `sudo` and by sudo itself, where they differ, as docs/DECISIONS.md says.
+# Whom a role names by the word `sudo` and by sudo itself, where they differ, as docs/DESIGN.md says.
 KNOWN = {
     "u-number-zeros": (["alice"], []),
     "g-number-zeros": (["alice", "bob"], []),
