@@ -9,6 +9,8 @@
 /* The file of a store holds at most 512 MiB of texts. */
 #define MOST_BYTES ((size_t)2 << 30)
 #define TRIES 50
+/* The head of a log, that of a frame, and the least page. */
+#define LEAST_LOG (32 + 24 + 512 - 1)
 
 /* What is left of a row's bytes; `is_bad` once they had no form. */
 struct fields {
@@ -286,13 +288,14 @@ static const char *take_rows(struct kept *kept) {
     return NULL;
 }
 
+/* A log without a whole frame behind its head holds nothing: the daemon leaves such a one. */
 static bool has_log(const char *path) {
     struct buffer name = {0};
     struct stat found;
     bool has = false;
     buffer_add_string(&name, path);
     buffer_add(&name, (struct text){"-wal", 5});
-    has = stat(name.bytes, &found) == 0 && found.st_size > 0;
+    has = stat(name.bytes, &found) == 0 && found.st_size > LEAST_LOG;
     buffer_free(&name);
     return has;
 }
