@@ -90,7 +90,7 @@ function row_of(kind, option,    i, beginning, best) {
     best = ""
     for (i = 1; i <= pattern_count[kind]; i++) {
         beginning = substr(patterns[kind, i], 1, length(patterns[kind, i]) - 1)
-        if (index(option, beginning) == 1 && length(patterns[kind, i]) > length(best)) best = patterns[kind, i]
+        if (substr(option, 1, length(beginning)) == beginning && length(patterns[kind, i]) > length(best)) best = patterns[kind, i]
     }
     return best == "" ? "" : kind SUBSEP best
 }
@@ -535,13 +535,13 @@ function add_socket(key, uri,    path) {
     add_server(key, uri, "ldapi" (path == "" ? "" : "-" daemon_host(path)) ":389", 0)
 }
 
-function add_uri(key, uri,    scheme) {
+function add_uri(key, uri,    scheme, address) {
     scheme = tolower(substr(uri, 1, index(uri, "://") - 1))
     if (scheme == "ldapi") { add_socket(key, uri); return }
-    uri = substr(uri, index(uri, "://") + 3)
-    sub(/\/$/, "", uri)
-    if ((scheme == "ldap" || scheme == "ldaps") && cut_address(uri)) add_address(key, scheme, found_host, found_port)
-    else refuse(here(key), "\"" scheme (scheme == "" ? "" : "://") uri "\" is no address of a server")
+    address = substr(uri, index(uri, "://") + 3)
+    sub(/\/$/, "", address)
+    if ((scheme == "ldap" || scheme == "ldaps") && cut_address(address)) add_address(key, scheme, found_host, found_port)
+    else refuse(here(key), "\"" uri "\" is no address of a server")
 }
 
 function add_host(key, host) {
@@ -851,7 +851,7 @@ function write_gateway(n,    name, is_tls) {
 # The password and nothing behind it. An obfuscated one is read by bixethomi-adopt.
 function write_password(n,    name) {
     if (is_obfuscated) {
-        print option("ldap_default_authtok") >(stage "/obfuscated")
+        if (n == 1) print option("ldap_default_authtok") >(stage "/obfuscated")
         print n >(stage "/obfuscated-for")
         return
     }
