@@ -90,11 +90,7 @@ impl<'r, R: Net + Clock> TcpLink<'r, R> {
     {
         let left = time_left(self.clock, &self.opened, self.lasts)?;
         let wait = left.min(Duration::from_secs(CALL_SECONDS));
-        let count = self.stream.read_in(wait, buf)?;
-        if count == 0 {
-            return Err(io::Error::from(ErrorKind::UnexpectedEof));
-        }
-        Ok(count)
+        self.stream.read_some(wait, buf)
     }
 
     /// How many calls have failed.

@@ -1,8 +1,9 @@
 //! A stream to a server, over TCP or through a Unix socket.
+ghost use Rattle.std.specs.Prelude.{ℕ, ◌<◌, IfOk};
 ghost use Rattle.std.specs.Io.{ReadsAtMost, WritesAtMost};
 
 use std::io;
-use std::io::{Read, Write};
+use std::io::{ErrorKind, Read, Write};
 use std::net::OpenStream;
 use std::os::unix::net::UnixStream;
 use std::time::Duration;
@@ -23,8 +24,8 @@ impl<S: Read + Write + OpenStream + Drop> Wire<S> {
         }
     }
 
-    /// Reads some bytes, in this time at most.
-    pub fn read_in(&mut self, wait: Duration, buf: &mut [u8]) -> io::Result<usize>
+    /// Reads some bytes, in this time at most; none at the peer's end.
+    fn read_in(&mut self, wait: Duration, buf: &mut [u8]) -> io::Result<usize>
         ensures { ReadsAtMost result buf.new }
     {
         match self {
@@ -37,6 +38,18 @@ impl<S: Read + Write + OpenStream + Drop> Wire<S> {
                 stream.read(buf)
             }
         }
+    }
+
+    /// Reads at least one byte, in this time at most; the peer's end is an error.
+    pub fn read_some(&mut self, wait: Duration, buf: &mut [u8]) -> io::Result<usize>
+        ensures bound { ReadsAtMost result buf.new }
+        ensures some { IfOk result (λ n. 0 < n) }
+    {
+        let count = self.read_in(wait, buf)?;
+        if count == 0 {
+            return Err(io::Error::from(ErrorKind::UnexpectedEof));
+        }
+        Ok(count)
     }
 
     /// Writes some bytes, in this time at most.
