@@ -1,5 +1,5 @@
 // The host that the daemon serves.
-ghost use Rattle.std.specs.Prelude.{◌≡◌, false, IfOk, None};
+ghost use Rattle.std.specs.Prelude.{◌≡◌, false, None};
 
 use crate::equipment::{Health, SystemTools};
 use crate::keeper::WatchedKeeper;
@@ -12,7 +12,6 @@ use sd_tcp::Links;
 use sd_unix::UnixDoors;
 use std::alloc::{Alloc, Global};
 use std::fs::{File, Files};
-use std::io;
 use std::io::{Eprint, Read};
 use std::net::Net;
 use std::random::RandomSource;
@@ -72,17 +71,6 @@ impl<'r, R> SystemHost<'r, R> {
             store_failed: false,
         }
     }
-}
-
-/// The doors on the socket at a path, and the links beside it.
-fn open_doors<'r, R>(rt: &'r R, path: &str) -> io::Result<(UnixDoors<'r, R>, Option<Links>)>
-where
-    R: Files + Net + Clock + Eprint + Wait + Alloc<A = Global>,
-    ensures { IfOk result (λ made. ⟦<UnixDoors<'r, R> as Doors>⟧.faults made.0 ≡ 0) }
-{
-    let links = links_beside(rt, path)?;
-    let doors = UnixDoors::open(rt, path)?;
-    Ok((doors, links))
 }
 
 impl<'r, R> Host for SystemHost<'r, R>
@@ -154,11 +142,13 @@ where
     }
 
     fn listen(&mut self, path: &str) -> Result<UnixDoors<'r, R>, DoorFailed> {
-        match open_doors(self.rt, path) {
-            Ok((doors, links)) => {
-                self.links = links;
-                Ok(doors)
-            }
+        let Ok(links) = links_beside(self.rt, path) else {
+            self.door_faults = self.door_faults.saturating_add(1);
+            return Err(DoorFailed);
+        };
+        self.links = links;
+        match UnixDoors::open(self.rt, path) {
+            Ok(doors) => Ok(doors),
             Err(_) => {
                 self.door_faults = self.door_faults.saturating_add(1);
                 Err(DoorFailed)
