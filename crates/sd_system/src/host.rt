@@ -3,10 +3,12 @@ ghost use Rattle.std.specs.Prelude.{◌≡◌, false, None};
 
 use crate::equipment::{Health, SystemTools};
 use crate::keeper::WatchedKeeper;
+use crate::links::links_beside;
 use sd_base::{Source, SourceFailed};
 use sd_doors::{DoorFailed, Doors};
 use sd_keeper::KeeperFault;
 use sd_server::{Host, Notice};
+use sd_tcp::Links;
 use sd_unix::UnixDoors;
 use std::alloc::{Alloc, Global};
 use std::fs::{File, Files};
@@ -46,6 +48,8 @@ pub struct SystemHost<'r, R> {
     /// What the store's keeper is made with.
     system: &'r HostRuntime,
     health: &'r Health,
+    /// Where servers are reached through sockets, once the doors are open.
+    links: Option<Links>,
     source_faults: u64,
     door_faults: u64,
     gave: bool,
@@ -59,6 +63,7 @@ impl<'r, R> SystemHost<'r, R> {
             rt,
             system,
             health,
+            links: None,
             source_faults: 0,
             door_faults: 0,
             gave: false,
@@ -137,6 +142,11 @@ where
     }
 
     fn listen(&mut self, path: &str) -> Result<UnixDoors<'r, R>, DoorFailed> {
+        let Ok(links) = links_beside(self.rt, path) else {
+            self.door_faults = self.door_faults.saturating_add(1);
+            return Err(DoorFailed);
+        };
+        self.links = links;
         match UnixDoors::open(self.rt, path) {
             Ok(doors) => Ok(doors),
             Err(_) => {
@@ -147,7 +157,7 @@ where
     }
 
     fn equipment(&mut self) -> SystemTools<'r, R> {
-        SystemTools::new(self.rt, self.health)
+        SystemTools::new(self.rt, self.health, self.links.take())
     }
 
     fn done_doors(&mut self, doors: UnixDoors<'r, R>) {
