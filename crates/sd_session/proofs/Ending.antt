@@ -22,13 +22,13 @@ use Rattle.sd_engine.specs.Engines.{Engine, done}
 use Rattle.sd_engine.specs.Listening.{EndsBy}
 use Rattle.sd_engine.specs.Leading.{about}
 use Rattle.sd_engine.specs.Turns.{Dialling}
-use Rattle.sd_session.specs.Sessions.{Company, Finds, Finishes, Refuses, Steps, Stand, moved, stand_after, frames_of, TracesOn, CountsFalls}
+use Rattle.sd_session.specs.Sessions.{Company, Finds, Finishes, Refuses, Steps, Stand, IsListening, moved, stand_after, frames_of, TracesOn, CountsFalls}
 use Rattle.sd_session.specs.Closing.{Accounts, AreLed, NoneReserved}
 use Rattle.sd_session.specs.Running.{AskedAll, AskedLast, IsAskedTo, LeadsOn, RanTo, Unfinished, Outside, Stands, Took, TookMore, EndsAs, Asked}
 use Rattle.sd_session.specs.Stepping.{IsMade, IsRefused, RefusedAs}
 use Rattle.sd_session.proofs.Accounting.{account_over, account_reached, none_reserved}
 use Rattle.sd_session.proofs.HeldLaws.{over_holds_nothing}
-use Rattle.sd_session.proofs.Standing.{more_operations, more_lines, reads_more, may_step_on, traces_step, all_whole, account_by, in_hand_as, step_account, led_by_step}
+use Rattle.sd_session.proofs.Standing.{more_operations, more_lines, reads_more, may_step_on, traces_step, listens_by, account_by, in_hand_as, step_account, led_by_step}
 
 operations_same : (known now : Option (List Operation)) (all : List Operation) → now ≡ with_operations known all → now ≡ with_operations known (all ++ [])
 operations_same known now all e = e ∙ ap (with_operations known) (sym (append-nil all))
@@ -121,18 +121,17 @@ took_more a b c frames bytes piece first more = subst (Consumes a c) (append_ass
 size_read : (frames bytes : List ℕ) (place : ℕ) → place ≡ length frames → place + length bytes ≡ 1073741824 → length (frames ++ bytes) ≡ 1073741824
 size_read frames bytes place e f = omega (arith, e, f, length-append frames bytes)
 
-pub heard_ends : (w : Company) (ending : SessionEnd) (s : Stand) (e : Engine) (before o p : Outside) → s.client ≡ None → s.broken ≡ false → Consumes before.left o.left (frames_of s.requests ++ e.inbox.bytes) → e.inbox.place ≡ length (frames_of s.requests) → before.reads ≤ o.reads
+pub heard_ends : (w : Company) (ending : SessionEnd) (s : Stand) (e : Engine) (before o p : Outside) → IsListening s → Consumes before.left o.left (frames_of s.requests ++ e.inbox.bytes) → e.inbox.place ≡ length (frames_of s.requests) → before.reads ≤ o.reads
     → EndsBy ending e.inbox o.left p.left (Rose o.reads p.reads) → EndsAs w ending s before p
-heard_ends w ends.Closed s e before o p none whole consumed place reads h =
+heard_ends w ends.Closed s e before o p listens consumed place reads h =
     let all : Took s e.inbox.bytes before p = took_nothing _ _ _ _ consumed h.2 in
-    (none, whole, subst (λ (rest : List ℕ). Took s rest before p) h.0 all, h.1)
-heard_ends w ends.Cut s e before o p none whole consumed place reads h =
-    (none, whole, record { rest = e.inbox.bytes; some = h.0; cut = h.1; taken = took_nothing _ _ _ _ consumed h.3; at_end = h.2 })
-heard_ends w (ends.BadFrame at) s e before o p none whole consumed place reads h =
-    (none, whole, record { rest = e.inbox.bytes; bad = h.1; place = h.0 ∙ place; taken = subst (λ (l : Option (List ℕ)). Consumes before.left l (frames_of s.requests ++ e.inbox.bytes)) (sym h.2) consumed })
-heard_ends w (ends.Long count) s e before o p none whole consumed place reads h = (
-  none,
-  whole,
+    (listens, subst (λ (rest : List ℕ). Took s rest before p) h.0 all, h.1)
+heard_ends w ends.Cut s e before o p listens consumed place reads h =
+    (listens, record { rest = e.inbox.bytes; some = h.0; cut = h.1; taken = took_nothing _ _ _ _ consumed h.3; at_end = h.2 })
+heard_ends w (ends.BadFrame at) s e before o p listens consumed place reads h =
+    (listens, record { rest = e.inbox.bytes; bad = h.1; place = h.0 ∙ place; taken = subst (λ (l : Option (List ℕ)). Consumes before.left l (frames_of s.requests ++ e.inbox.bytes)) (sym h.2) consumed })
+heard_ends w (ends.Long count) s e before o p listens consumed place reads h = (
+  listens,
   record {
     rest = e.inbox.bytes;
     piece = h.piece;
@@ -143,13 +142,13 @@ heard_ends w (ends.Long count) s e before o p none whole consumed place reads h 
     taken = took_more _ _ _ (frames_of s.requests) e.inbox.bytes h.piece consumed h.consumed;
   },
 )
-heard_ends w ends.ReadFault s e before o p none whole consumed place reads h =
-    (none, whole, record { rest = e.inbox.bytes; cut = h.1; taken = took_nothing _ _ _ _ consumed h.2; failed = let rose = h.0 in omega (arith, reads, rose) })
-heard_ends w ends.Memory s e before o p none whole consumed place reads h =
+heard_ends w ends.ReadFault s e before o p listens consumed place reads h =
+    (listens, record { rest = e.inbox.bytes; cut = h.1; taken = took_nothing _ _ _ _ consumed h.2; failed = let rose = h.0 in omega (arith, reads, rose) })
+heard_ends w ends.Memory s e before o p listens consumed place reads h =
     record { rest = e.inbox.bytes ++ h.piece; taken = took_more _ _ _ (frames_of s.requests) e.inbox.bytes h.piece consumed h.consumed }
-heard_ends w ends.Stopped s e before o p none whole consumed place reads h = absurd h
-heard_ends w ends.WriteFault s e before o p none whole consumed place reads h = absurd h
-heard_ends w (ends.JournalFull count) s e before o p none whole consumed place reads h = absurd h
+heard_ends w ends.Stopped s e before o p listens consumed place reads h = absurd h
+heard_ends w ends.WriteFault s e before o p listens consumed place reads h = absurd h
+heard_ends w (ends.JournalFull count) s e before o p listens consumed place reads h = absurd h
 
 pub ran_hearing : (w : Company) (seed : List ℕ) (config : Config) (d : Daemon) (before : Outside) (ending : SessionEnd) (e f : Engine) (daemon : Daemon) (o p : Outside) → Stands w seed config d before e daemon o → e.client ≡ None → f ≡ e → Leaves o p → p.dialling ≡ o.dialling
     → EndsBy ending e.inbox o.left p.left (Rose o.reads p.reads) → RanTo w seed config d before ending f daemon p
@@ -158,7 +157,7 @@ ran_hearing w seed config d before ending e f daemon o p s none same l dialling 
     subst (λ (x : Engine). RanTo w seed config d before ending x daemon p) (sym same)
     (ran_as w seed config d before ending e e daemon o p s l (subst (λ (x : Dialling). HasNotFallen o.dialling.faults x.faults) (sym dialling) (omega arith))
     (asked_as config ending s0 before p (all_asked s0 s0 before.dialling o.dialling p.dialling refl refl dialling s.asked))
-    (heard_ends w ending s0 e before o p (sym s.hand.client ∙ none) (sym s.written.broken ∙ all_whole e.has_failed e.client none s.written.told) s.heard.consumed s.heard.place s.heard.reads h)
+    (heard_ends w ending s0 e before o p (listens_by w seed config d before e daemon o s none) s.heard.consumed s.heard.place s.heard.reads h)
     (idle ending daemon e s0.own none s.account))
 
 -- ---- ends with a request that is carried out, or for want of memory
@@ -166,16 +165,10 @@ ran_hearing w seed config d before ending e f daemon o p s none same l dialling 
 took_unread : (s : Stand) (e : Engine) (before o p : Outside) → p.left ≡ o.left → Consumes before.left o.left (frames_of s.requests ++ e.inbox.bytes) → TookMore s before p
 took_unread s e before o p left consumed = record { rest = e.inbox.bytes; taken = subst (λ (l : Option (List ℕ)). Consumes before.left l (frames_of s.requests ++ e.inbox.bytes)) (sym left) consumed }
 
-pub ran_stopped : (w : Company) (seed : List ℕ) (config : Config) (d : Daemon) (before : Outside) (e : Engine) (daemon : Daemon) (o : Outside) → Stands w seed config d before e daemon o → e.client ≡ None → e.stops ≡ true → RanTo w seed config d before ends.Stopped e daemon o
-ran_stopped w seed config d before e daemon o s none stops =
-    let s0 : Stand = stand_after seed config d s.moves in
-    ran_as w seed config d before ends.Stopped e e daemon o o s (record { held = refl; trace = refl; reads = omega arith; writes = omega arith }) (omega arith) (all_asked s0 s0 before.dialling o.dialling o.dialling refl refl refl s.asked)
-    (sym s.hand.client ∙ none, sym s.written.broken ∙ all_whole e.has_failed e.client none s.written.told, sym s.heard.stops ∙ stops, took_unread s0 e before o o refl s.heard.consumed) (idle ends.Stopped daemon e s0.own none s.account)
-
--- the request in hand is carried out, and its answer was not written whole
-pub ran_write_fault : (w : Company) (seed : List ℕ) (config : Config) (d : Daemon) (before : Outside) (e f : Engine) (daemon : Daemon) (o p : Outside) (c : Client) → Stands w seed config d before e daemon o → e.client ≡ Some c → need_of c ≡ needs.End → e.has_failed ≡ true → f ≡ done e
-    → Leaves o p → p.left ≡ o.left → p.dialling ≡ o.dialling → RanTo w seed config d before ends.WriteFault f daemon p
-ran_write_fault w seed config d before e f daemon o p c s is needed failed new l left dialling =
+-- the request in hand is carried out, and that ends the session
+ran_finished : (w : Company) (seed : List ℕ) (config : Config) (d : Daemon) (before : Outside) (ending : SessionEnd) (e f : Engine) (daemon : Daemon) (o p : Outside) (c : Client) → (s : Stands w seed config d before e daemon o) → e.client ≡ Some c → need_of c ≡ needs.End → f ≡ done e
+    → Leaves o p → p.dialling ≡ o.dialling → EndsAs w ending (moved seed config (stand_after seed config d s.moves) Finishes) before p → RanTo w seed config d before ending f daemon p
+ran_finished w seed config d before ending e f daemon o p c s is needed new l dialling why =
     let s0 : Stand = stand_after seed config d s.moves in
     let t : Stand = moved seed config s0 Finishes in
     record {
@@ -185,17 +178,31 @@ ran_write_fault w seed config d before e f daemon o p c s is needed failed new l
         stepped = s.hand.same;
         written = subst (λ (x : Option (List ℕ)). Appends before.held x s0.written) (sym l.held) s.written.written;
         trace = subst (TracesOn before.trace s0) (sym l.trace) s.trace;
-        operations = all_asked s0 t before.dialling o.dialling p.dialling refl refl dialling s.asked;
+        operations = asked_as config ending t before p (all_asked s0 t before.dialling o.dialling p.dialling refl refl dialling s.asked);
         falls = subst (λ (x : Dialling). CountsFalls before.dialling.faults s0.falls x.faults) (sym dialling) s.asked.falls;
-        why = (refl, sym s.written.broken ∙ failed, took_unread t e before o p left s.heard.consumed);
+        why = why;
         failed = λ b. let rose = s.written.failed b in omega (arith, rose, l.writes);
         reads = omega (arith, s.heard.reads, l.reads);
         writes = omega (arith, s.written.writes, l.writes);
       };
-      unfinished = idle ends.WriteFault daemon f t.own (ap (λ (x : Engine). x.client) new)
+      unfinished = idle ending daemon f t.own (ap (λ (x : Engine). x.client) new)
           (account_by daemon e f f.client t.own (ap (λ (x : Engine). x.leads) new) (ap (λ (x : Engine). x.ticket) new)
           (account_over daemon e.leads e.ticket c e.client f.client t.own is (ap (λ (x : Engine). x.client) new) (over_holds_nothing c.seed c.course needed) s.account));
     }
+
+-- it was the operator's stop, and its answer was written whole
+pub ran_stopped : (w : Company) (seed : List ℕ) (config : Config) (d : Daemon) (before : Outside) (e f : Engine) (daemon : Daemon) (o p : Outside) (c : Client) → Stands w seed config d before e daemon o → e.client ≡ Some c → need_of c ≡ needs.End → e.stops ≡ true → e.has_failed ≡ false → f ≡ done e
+    → Leaves o p → p.left ≡ o.left → p.dialling ≡ o.dialling → RanTo w seed config d before ends.Stopped f daemon p
+ran_stopped w seed config d before e f daemon o p c s is needed stops fine new l left dialling =
+    ran_finished w seed config d before ends.Stopped e f daemon o p c s is needed new l dialling
+    (refl, sym s.written.broken ∙ fine, sym s.heard.stops ∙ stops, took_unread (moved seed config (stand_after seed config d s.moves) Finishes) e before o p left s.heard.consumed)
+
+-- its answer was not written whole
+pub ran_write_fault : (w : Company) (seed : List ℕ) (config : Config) (d : Daemon) (before : Outside) (e f : Engine) (daemon : Daemon) (o p : Outside) (c : Client) → Stands w seed config d before e daemon o → e.client ≡ Some c → need_of c ≡ needs.End → e.has_failed ≡ true → f ≡ done e
+    → Leaves o p → p.left ≡ o.left → p.dialling ≡ o.dialling → RanTo w seed config d before ends.WriteFault f daemon p
+ran_write_fault w seed config d before e f daemon o p c s is needed failed new l left dialling =
+    ran_finished w seed config d before ends.WriteFault e f daemon o p c s is needed new l dialling
+    (refl, sym s.written.broken ∙ failed, took_unread (moved seed config (stand_after seed config d s.moves) Finishes) e before o p left s.heard.consumed)
 
 -- memory was wanting, maybe for what a lookup or a bind came to
 pub ran_starved : (w : Company) (seed : List ℕ) (config : Config) (d : Daemon) (before : Outside) (e f : Engine) (daemon : Daemon) (o p : Outside) (more : List Operation) (lines : List (List ℕ)) → (s : Stands w seed config d before e daemon o) → AskedLast config (stand_after seed config d s.moves) more lines → f.leads ≡ e.leads → f.ticket ≡ e.ticket → Leaves o p → p.left ≡ o.left

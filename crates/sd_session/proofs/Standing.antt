@@ -33,7 +33,7 @@ use Rattle.sd_engine.specs.Engines.{Engine, client_of, heard, awaiting, done, re
 use Rattle.sd_engine.specs.Names.{holds_order}
 use Rattle.sd_engine.specs.Leading.{about, leads_after, ticket_after}
 use Rattle.sd_engine.specs.Turns.{Dialling, HearsRequest, HearsBytes, GoesByFetch, GoesByBind, IsTold, IsUntold}
-use Rattle.sd_session.specs.Sessions.{Company, Move, Finds, Hears, Steps, Refuses, Fetches, Binds, Tells, Breaks, Finishes, Stand, AllMay, moved, stand_after, frames_of, last_stops, ReadsOn, Trace, TracesOn, CountsFalls, fetch_falls, bind_falls}
+use Rattle.sd_session.specs.Sessions.{Company, Move, Finds, Hears, Steps, Refuses, Fetches, Binds, Tells, Breaks, Finishes, Stand, AllMay, IsListening, moved, stand_after, frames_of, last_stops, ReadsOn, Trace, TracesOn, CountsFalls, fetch_falls, bind_falls}
 use Rattle.sd_session.specs.Spoken.{IsSpoken}
 use Rattle.sd_session.specs.Holding.{is_told}
 use Rattle.sd_session.specs.Running.{WasTold, Outside, IsInHand, IsHeardTo, IsWrittenTo, IsAskedTo, Stands}
@@ -226,6 +226,21 @@ account_by d e f client own leads ticket a =
 account_still : (d : Daemon) (e f : Engine) (own : List Entry) → f.leads ≡ e.leads → f.ticket ≡ e.ticket → f.client ≡ e.client → Accounts d e.leads e.ticket e.client own → Accounts d f.leads f.ticket f.client own
 account_still d e f own leads ticket client a = account_by d e f f.client own leads ticket (subst (λ (x : Option Client). Accounts d e.leads e.ticket x own) (sym client) a)
 
+-- with a request in hand the session may go on
+goes_with : (f : Engine) (c : Client) → f.client ≡ Some c → f.client ≡ None → f.stops ≡ false
+goes_with f c is none = let clash : ⊥ = some_none c (sym is ∙ none) in absurd clash
+  where
+    some_none : (c : Client) → Some c ≡ None → ⊥
+    some_none c e = cc
+
+-- between two turns, without a request in hand, the session listens
+pub listens_by : (w : Company) (seed : List ℕ) (config : Config) (d : Daemon) (before : Outside) (e : Engine) (daemon : Daemon) (o : Outside) → (s : Stands w seed config d before e daemon o) → e.client ≡ None → IsListening (stand_after seed config d s.moves)
+listens_by w seed config d before e daemon o s none = record {
+  none = sym s.hand.client ∙ none;
+  whole = sym s.written.broken ∙ all_whole e.has_failed e.client none s.written.told;
+  going = sym s.heard.stops ∙ s.hand.going none;
+}
+
 -- ---- turns without a request in hand
 
 pub stands_hears : (w : Company) (seed : List ℕ) (config : Config) (d : Daemon) (before : Outside) (e f : Engine) (daemon : Daemon) (o p : Outside) → Stands w seed config d before e daemon o → e.client ≡ None
@@ -236,11 +251,12 @@ stands_hears w seed config d before e f daemon o p s none h reads held writes re
     let t : Stand = moved seed config s0 (Hears h.request) in
     record {
       moves = Hears h.request ∷ s.moves;
-      may = (record { none = sym s.hand.client ∙ none; whole = sym s.written.broken ∙ all_whole e.has_failed e.client none s.written.told }, s.may);
+      may = (record { listens = listens_by w seed config d before e daemon o s none; carried = h.frame.carried }, s.may);
       hand = record {
         same = s.hand.same;
         client = ap (λ (x : Engine). x.client) h.after;
         in_hand = subst (λ (x : Engine). IfSome x.client (IsInHand seed daemon)) (sym h.after) (record { salted = refl; known = begun_is_spoken daemon config.settings h.request });
+        going = goes_with f (client_of seed config.settings h.request) (ap (λ (x : Engine). x.client) h.after);
       };
       heard = heard_frame s0 e f seed config before o p s.heard h reads;
       written = written_on s0 t e f before o p refl refl s.written
@@ -263,6 +279,7 @@ stands_takes w seed config d before e f daemon o p s h reads held writes reading
         same = s.hand.same;
         client = ap (λ (x : Engine). x.client) h.after ∙ s.hand.client;
         in_hand = subst (λ (x : Engine). IfSome x.client (IsInHand seed daemon)) (sym h.after) s.hand.in_hand;
+        going = subst (λ (x : Engine). x.client ≡ None → x.stops ≡ false) (sym h.after) s.hand.going;
       };
       heard = heard_bytes s0 e f before o p s.heard h reads;
       written = written_on s0 s0 e f before o p refl refl s.written
@@ -297,6 +314,7 @@ stands_named w seed config d before e f daemon o p c about s is new quiet held w
         same = s.hand.same;
         client = ap (λ (x : Engine). x.client) new ∙ sym is ∙ s.hand.client;
         in_hand = subst (λ (x : Engine). IfSome x.client (IsInHand seed daemon)) (sym new) (in_hand_as seed daemon e c is s.hand.in_hand);
+        going = goes_with f c (ap (λ (x : Engine). x.client) new);
       };
       heard = heard_on s0 s0 e f before o p refl s.heard (same_heard e f o p (ap (λ (x : Engine). x.inbox) new) (ap (λ (x : Engine). x.stops) new) quiet);
       written = written_on s0 s0 e f before o p refl refl s.written
@@ -322,6 +340,7 @@ stands_fetches w seed config d before e f daemon o p c server key s is needed g 
           server = server;
           key = key;
           needed = needed;
+          memory = g.memory;
           asked = g.lookup.asked.are;
           told = λ b behind. g.lookup.told b (s.asked.behind server ∙ behind);
         },
@@ -331,6 +350,7 @@ stands_fetches w seed config d before e f daemon o p c server key s is needed g 
         same = s.hand.same;
         client = ap (λ (x : Engine). x.client) g.after ∙ ap (option_map (λ (x : Client). client_fetched x g.fetched)) (sym is ∙ s.hand.client);
         in_hand = subst (λ (x : Engine). IfSome x.client (IsInHand seed daemon)) (sym g.after) (record { salted = hand.salted; known = fetched_known daemon c.course g.fetched hand.known });
+        going = goes_with f (client_fetched c g.fetched) (ap (λ (x : Engine). x.client) g.after);
       };
       heard = heard_on s0 t e f before o p refl s.heard (same_heard e f o p (ap (λ (x : Engine). x.inbox) g.after) (ap (λ (x : Engine). x.stops) g.after) quiet);
       written = written_on s0 t e f before o p refl refl s.written
@@ -364,6 +384,7 @@ stands_binds w seed config d before e f daemon o p c server dn password s is nee
           dn = dn;
           password = password;
           needed = needed;
+          memory = g.memory;
           asked = g.bind.asked.are;
           told = λ b behind. g.bind.told b (s.asked.behind server ∙ behind);
         },
@@ -373,6 +394,7 @@ stands_binds w seed config d before e f daemon o p c server dn password s is nee
         same = s.hand.same;
         client = ap (λ (x : Engine). x.client) g.after ∙ ap (option_map (λ (x : Client). client_bound x g.bound)) (sym is ∙ s.hand.client);
         in_hand = subst (λ (x : Engine). IfSome x.client (IsInHand seed daemon)) (sym g.after) (record { salted = hand.salted; known = bound_known c.seed daemon c.course g.bound hand.known });
+        going = goes_with f (client_bound c g.bound) (ap (λ (x : Engine). x.client) g.after);
       };
       heard = heard_on s0 t e f before o p refl s.heard (same_heard e f o p (ap (λ (x : Engine). x.inbox) g.after) (ap (λ (x : Engine). x.stops) g.after) quiet);
       written = written_on s0 t e f before o p refl refl s.written
@@ -403,6 +425,7 @@ stands_tells w seed config d before e f daemon o p c said s is needed g quiet wr
         same = s.hand.same;
         client = ap (λ (x : Engine). x.client) g.after ∙ ap (option_map client_told) (sym is ∙ s.hand.client);
         in_hand = subst (λ (x : Engine). IfSome x.client (IsInHand seed daemon)) (sym g.after) (record { salted = hand.salted; known = told_known daemon c.course hand.known });
+        going = goes_with f (client_told c) (ap (λ (x : Engine). x.client) g.after);
       };
       heard = heard_on s0 t e f before o p refl s.heard (same_heard e f o p (ap (λ (x : Engine). x.inbox) g.after) (ap (λ (x : Engine). x.stops) g.after) quiet);
       written = record {
@@ -432,6 +455,7 @@ stands_breaks w seed config d before e f daemon o p c said s is needed g quiet w
         same = s.hand.same;
         client = ap (λ (x : Engine). x.client) g.after ∙ ap (option_map client_told) (sym is ∙ s.hand.client);
         in_hand = subst (λ (x : Engine). IfSome x.client (IsInHand seed daemon)) (sym g.after) (record { salted = hand.salted; known = told_known daemon c.course hand.known });
+        going = goes_with f (client_told c) (ap (λ (x : Engine). x.client) g.after);
       };
       heard = heard_on s0 t e f before o p refl s.heard (same_heard e f o p (ap (λ (x : Engine). x.inbox) g.after) (ap (λ (x : Engine). x.stops) g.after) quiet);
       written = record {
@@ -448,8 +472,8 @@ stands_breaks w seed config d before e f daemon o p c said s is needed g quiet w
     }
 
 pub stands_finishes : (w : Company) (seed : List ℕ) (config : Config) (d : Daemon) (before : Outside) (e f : Engine) (daemon : Daemon) (o p : Outside) (c : Client) → Stands w seed config d before e daemon o → e.client ≡ Some c
-    → need_of c ≡ needs.End → e.has_failed ≡ false → f ≡ done e → Quiet o p → p.held ≡ o.held → o.writes ≤ p.writes → p.dialling ≡ o.dialling → Stands w seed config d before f daemon p
-stands_finishes w seed config d before e f daemon o p c s is needed fine new quiet held writes dialling =
+    → need_of c ≡ needs.End → e.stops ≡ false → e.has_failed ≡ false → f ≡ done e → Quiet o p → p.held ≡ o.held → o.writes ≤ p.writes → p.dialling ≡ o.dialling → Stands w seed config d before f daemon p
+stands_finishes w seed config d before e f daemon o p c s is needed going fine new quiet held writes dialling =
     let s0 : Stand = stand_after seed config d s.moves in
     let t : Stand = moved seed config s0 Finishes in
     record {
@@ -459,6 +483,7 @@ stands_finishes w seed config d before e f daemon o p c s is needed fine new qui
         same = s.hand.same;
         client = ap (λ (x : Engine). x.client) new;
         in_hand = subst (λ (x : Engine). IfSome x.client (IsInHand seed daemon)) (sym new) tt;
+        going = λ none. ap (λ (x : Engine). x.stops) new ∙ going;
       };
       heard = heard_on s0 t e f before o p refl s.heard (same_heard e f o p (ap (λ (x : Engine). x.inbox) new) (ap (λ (x : Engine). x.stops) new) quiet);
       written = written_on s0 t e f before o p refl refl s.written
@@ -543,6 +568,7 @@ stands_steps w seed config d before e f daemon daemon' o p c event gave s is nee
         same = m.made;
         client = ap (λ (x : Engine). x.client) new ∙ given_by_made m.found m.now event c gave e.client s0.client m.gives s.hand.client is;
         in_hand = subst (λ (x : Engine). IfSome x.client (IsInHand seed daemon')) (sym new) (record { salted = hand.salted; known = known });
+        going = goes_with f (client_replied c gave) (ap (λ (x : Engine). x.client) new);
       };
       heard = heard_on s0 t e f before o p refl s.heard (same_outside e f o p (ap (λ (x : Engine). x.inbox) new) (ap (λ (x : Engine). x.stops) new) same);
       written = written_on s0 t e f before o p refl refl s.written
@@ -566,7 +592,7 @@ stands_waits w seed config d before e daemon daemon' o p event s r to known same
     record {
       moves = Refuses r.now ∷ Finds daemon' ∷ s.moves;
       may = (tt, (subst (λ (x : Daemon). w.others x daemon') s.hand.same r.others, s.may));
-      hand = record { same = refl; client = s.hand.client; in_hand = knows_now seed daemon daemon' e.client s.hand.in_hand known };
+      hand = record { same = refl; client = s.hand.client; in_hand = knows_now seed daemon daemon' e.client s.hand.in_hand known; going = s.hand.going };
       heard = heard_on s0 t e e before o p refl s.heard (same_outside e e o p refl refl same);
       written = written_on s0 t e e before o p refl refl s.written (unwritten e e o p refl s.written.told same);
       trace = (
@@ -587,7 +613,7 @@ stands_finds w seed config d before e daemon daemon' o p s others to known same 
     (record {
       moves = Finds daemon' ∷ s.moves;
       may = (subst (λ (x : Daemon). w.others x daemon') s.hand.same others, s.may);
-      hand = record { same = refl; client = s.hand.client; in_hand = knows_now seed daemon daemon' e.client s.hand.in_hand known };
+      hand = record { same = refl; client = s.hand.client; in_hand = knows_now seed daemon daemon' e.client s.hand.in_hand known; going = s.hand.going };
       heard = heard_on s0 t e e before o o refl s.heard (record { inbox = refl; stops = refl; left = refl; reads = refl });
       written = written_on s0 t e e before o o refl refl s.written (record { held = refl; same = refl; told = s.written.told; writes = omega arith });
       trace = s.trace;

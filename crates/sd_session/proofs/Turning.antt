@@ -58,7 +58,7 @@ by_need w seed config e f daemon o p c (needs.Say said) is n h quiet writes = λ
 ]
 by_need w seed config e f daemon o p c (needs.Fetch server key) is n h quiet writes = λ d before s. stands_fetches w seed config d before e f daemon o p c server key s is n h.0 quiet h.1 writes
 by_need w seed config e f daemon o p c (needs.Bind server dn password) is n h quiet writes = λ d before s. stands_binds w seed config d before e f daemon o p c server dn password s is n h.0 quiet h.1 writes
-by_need w seed config e f daemon o p c needs.End is n h quiet writes = λ d before s. stands_finishes w seed config d before e f daemon o p c s is n h.0.0.1 h.0.0.2 quiet h.1 writes h.0.1
+by_need w seed config e f daemon o p c needs.End is n h quiet writes = λ d before s. stands_finishes w seed config d before e f daemon o p c s is n h.0.0.0 h.0.0.1 h.0.0.2 quiet h.1 writes h.0.1
 by_need w seed config e f daemon o p c (needs.Step event) is n h quiet writes = absurd h.0.0
 by_need w seed config e f daemon o p c (needs.Await ticket) is n h quiet writes = absurd h.0.0
 
@@ -118,8 +118,7 @@ ended_by w seed config ends.Memory e f daemon o p c (needs.Bind server dn passwo
     (λ d before s. inr (inr (record { client = c; in_hand = sym s.hand.client ∙ is; server = server; dn = dn; password = password; needed = n; asked = h.0.1.asked.are }))) h.0.0 h.1 quiet outer h.0.1.later h.0.1.asked.told h.0.1.asked.received
 ended_by w seed config ends.Memory e f daemon o p c needs.End is n h quiet outer = absurd h.0.0
 ended_by w seed config ends.Stopped e f daemon o p c needs.End is n h quiet outer = λ d before s.
-    let t = stands_finishes w seed config d before e f daemon o p c s is n h.0.0.1 h.0.0.2 quiet h.1 outer.writes h.0.1 in
-    ran_stopped w seed config d before f daemon p t (ap (λ (x : Engine). x.client) h.0.0.2) (ap (λ (x : Engine). x.stops) h.0.0.2 ∙ h.0.0.0)
+    ran_stopped w seed config d before e f daemon o p c s is n h.0.0.0 h.0.0.1 h.0.0.2 (leaves_by e o p h.1 outer) quiet.left h.0.1
 ended_by w seed config ends.WriteFault e f daemon o p c needs.End is n h quiet outer = λ d before s.
     ran_write_fault w seed config d before e f daemon o p c s is n h.0.0.0 h.0.0.1 (leaves_by e o p h.1 outer) quiet.left h.0.1
 ended_by w seed config ends.Stopped e f daemon o p c (needs.Say said) is n h quiet outer = absurd h.0

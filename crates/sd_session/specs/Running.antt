@@ -30,7 +30,7 @@ use Rattle.sd_engine.specs.Leading.{about, leads_after, ticket_after}
 use Rattle.sd_engine.specs.Turns.{Dialling, dialling_of}
 use Rattle.sd_session.specs.Holding.{is_told}
 use Rattle.sd_session.specs.Closing.{Accounts, AreLed, NoneReserved}
-use Rattle.sd_session.specs.Sessions.{Company, Move, Stand, Trace, AllMay, TracesOn, stand_after, frames_of, last_stops, CountsFalls}
+use Rattle.sd_session.specs.Sessions.{Company, Move, Stand, Trace, AllMay, IsListening, TracesOn, stand_after, frames_of, last_stops, CountsFalls}
 
 -- What is told of the outside at a moment: the bytes left, the bytes held, the session's own steps, the counts of faults of source and
 -- sink, and what the dialer tells.
@@ -76,11 +76,12 @@ pub record IsAskedTo (s : Stand) (before now : Dialling) : Type 0 where
   pub falls : CountsFalls before.faults s.falls now.faults
   pub later : HasNotFallen before.faults now.faults
 
--- the request in hand
+-- the request in hand; without one the session was not told to stop
 pub record HasInHand (seed : List ℕ) (s : Stand) (engine : Engine) (daemon : Daemon) : Type 0 where
   pub same : daemon ≡ s.daemon
   pub client : engine.client ≡ s.client
   pub in_hand : IfSome engine.client (IsInHand seed daemon)
+  pub going : engine.client ≡ None → engine.stops ≡ false
 
 -- Between two turns: the moves so far, each of which the session might make, led from the daemon d to this one and to the request in
 -- hand; and what the outside tells is by these moves.
@@ -148,15 +149,15 @@ pub record IsFullFor (w : Company) (count : ℕ) (s : Stand) : Type 0 where
   pub forgot : w.full s event count
 
 -- Why a session ended where it stood. But for a fault of the sink, a full journal and want of memory, each request that was heard is
--- carried out, and its answer was written whole.
+-- carried out, and its answer was written whole. Behind the answer to a stop the session ends as stopped.
 abbrev pub EndsAs : Company → SessionEnd → Stand → Outside → Outside → Type 0
-EndsAs w ends.Closed s before now = (s.client ≡ None) × (s.broken ≡ false) × Took s [] before now × IsAtEnd now.left
+EndsAs w ends.Closed s before now = IsListening s × Took s [] before now × IsAtEnd now.left
 EndsAs w ends.Stopped s before now = (s.client ≡ None) × (s.broken ≡ false) × (last_stops s.requests ≡ true) × TookMore s before now
-EndsAs w ends.ReadFault s before now = (s.client ≡ None) × (s.broken ≡ false) × IsUnread s before now
+EndsAs w ends.ReadFault s before now = IsListening s × IsUnread s before now
 EndsAs w ends.WriteFault s before now = (s.client ≡ None) × (s.broken ≡ true) × TookMore s before now
-EndsAs w (ends.BadFrame at) s before now = (s.client ≡ None) × (s.broken ≡ false) × IsBadAt at s before now
-EndsAs w ends.Cut s before now = (s.client ≡ None) × (s.broken ≡ false) × IsCutOff s before now
-EndsAs w (ends.Long count) s before now = (s.client ≡ None) × (s.broken ≡ false) × IsTooLong count s before now
+EndsAs w (ends.BadFrame at) s before now = IsListening s × IsBadAt at s before now
+EndsAs w ends.Cut s before now = IsListening s × IsCutOff s before now
+EndsAs w (ends.Long count) s before now = IsListening s × IsTooLong count s before now
 EndsAs w (ends.JournalFull count) s before now = IsFullFor w count s × TookMore s before now
 EndsAs w ends.Memory s before now = TookMore s before now
 

@@ -12,7 +12,7 @@ use Rattle.sd_rules.specs.declared.tasks.Fetched.TheVariants as fetches
 use Rattle.sd_rules.specs.declared.tasks.Need.TheVariants as needs
 use Rattle.sd_rules.specs.declared.tasks.Said.{Said}
 use Rattle.sd_rules.specs.Steps.{Daemon, after, entry_made, given, is_full, is_steppable}
-use Rattle.sd_rules.specs.Scripts.{event_of}
+use Rattle.sd_rules.specs.Scripts.{event_of, is_out_of_memory, is_bind_out_of_memory}
 use Rattle.sd_conf.specs.declared.config.Config.{Config}
 use Rattle.sd_dial.specs.Entries.{Behind}
 use Rattle.sd_dial.specs.Operations.{Operation}
@@ -22,7 +22,7 @@ use Rattle.sd_fetch.specs.Told.{searches_of, first_failure}
 use Rattle.sd_engine.specs.Lookups.{LookupOperations, IsToldFetch}
 use Rattle.sd_engine.specs.Binds.{BindOperations}
 use Rattle.sd_wire.specs.declared.requests.Request.{Request}
-use Rattle.sd_wire.specs.Frames.{frame_of}
+use Rattle.sd_wire.specs.Frames.{IsCarried, frame_of}
 use Rattle.sd_engine.specs.Courses.{Client, need_of, client_told, client_replied, client_fetched, client_bound}
 use Rattle.sd_engine.specs.Answering.{reply_of}
 use Rattle.sd_engine.specs.Engines.{client_of, is_stop}
@@ -113,13 +113,14 @@ pub record NeedsStep (s : Stand) (event : Event) : Type 0 where
   pub room : is_full s.daemon event ≡ false
 
 -- The server that was picked is asked for the key of the request in hand, and the bytes received on the line decide. Where the directory
--- behind the server is told, its entries decide.
+-- behind the server is told, its entries decide. A lookup for which memory was wanting is no move: it ends the session.
 pub record NeedsFetch (config : Config) (behind : ℕ → Option Behind) (s : Stand) (fetched : Fetched) (operations : List Operation) (lines : List (List ℕ)) : Type 0 where
   pub client : Client
   pub in_hand : s.client ≡ Some client
   pub server : ℕ
   pub key : Key
   pub needed : need_of client ≡ needs.Fetch server key
+  pub memory : is_out_of_memory fetched ≡ false
   pub asked : LookupOperations config key server fetched operations lines
   pub told : (b : Behind) → behind server ≡ Some b → IsToldFetch fetched (first_failure b 0 1 (searches_of config b.entries key)) (looked_up config b.entries key)
 
@@ -130,6 +131,7 @@ pub record NeedsBind (behind : ℕ → Option Behind) (s : Stand) (bound : Bound
   pub dn : List ℕ
   pub password : List ℕ
   pub needed : need_of client ≡ needs.Bind server dn password
+  pub memory : is_bind_out_of_memory bound ≡ false
   pub asked : BindOperations dn password server bound operations lines
   pub told : (b : Behind) → behind server ≡ Some b → IsToldBind bound (told_bind b 0 1 dn password)
 
@@ -140,10 +142,21 @@ pub record NeedsSay (s : Stand) (said : Said) : Type 0 where
   pub needed : need_of client ≡ needs.Say said
   pub whole : s.broken ≡ false
 
--- a request is heard where none is in hand, and all answers before were written whole
-pub record MayHear (s : Stand) : Type 0 where
+-- the last request heard is the operator's stop
+abbrev pub last_stops : List Request → Bool
+last_stops [] = false
+last_stops (request ∷ requests) = is_stop request
+
+-- The session listens: no request is in hand, all answers before were written whole, and the last was none to the operator's stop.
+pub record IsListening (s : Stand) : Type 0 where
   pub none : s.client ≡ None
   pub whole : s.broken ≡ false
+  pub going : last_stops s.requests ≡ false
+
+-- a request is heard where the session listens, and it is one that the frames can carry
+pub record MayHear (s : Stand) (request : Request) : Type 0 where
+  pub listens : IsListening s
+  pub carried : IsCarried request
 
 pub record NeedsNothing (s : Stand) : Type 0 where
   pub client : Client
@@ -162,7 +175,7 @@ alone = record { others = λ d e. e ≡ d; full = λ s event count. Unit {0} }
 
 abbrev pub May : Company → Config → (ℕ → Option Behind) → Stand → Move → Type 0
 May w config behind s (Finds found) = w.others s.daemon found
-May w config behind s (Hears request) = MayHear s
+May w config behind s (Hears request) = MayHear s request
 May w config behind s (Steps now event) = NeedsStep s event
 May w config behind s (Refuses now) = Unit {0}
 May w config behind s (Fetches fetched operations lines) = NeedsFetch config behind s fetched operations lines
@@ -182,11 +195,6 @@ AllMay w seed config behind d (move ∷ moves) = May w config behind (stand_afte
 abbrev pub frames_of : List Request → List ℕ
 frames_of [] = []
 frames_of (request ∷ requests) = frames_of requests ++ frame_of request
-
--- the last request heard is the operator's stop
-abbrev pub last_stops : List Request → Bool
-last_stops [] = false
-last_stops (request ∷ requests) = is_stop request
 
 -- a clock that tells its readings told some readings more
 abbrev pub ReadsOn : Option (List ℕ) → List ℕ → Option (List ℕ) → Type 0
