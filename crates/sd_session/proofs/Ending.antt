@@ -23,8 +23,8 @@ use Rattle.sd_engine.specs.Listening.{EndsBy}
 use Rattle.sd_engine.specs.Leading.{about}
 use Rattle.sd_engine.specs.Turns.{Dialling}
 use Rattle.sd_session.specs.Sessions.{Company, Finds, Finishes, Refuses, Steps, Stand, IsListening, moved, stand_after, frames_of, TracesOn, CountsFalls}
-use Rattle.sd_session.specs.Closing.{Accounts, AreLed, NoneReserved}
-use Rattle.sd_session.specs.Running.{AskedAll, AskedLast, IsAskedTo, LeadsOn, RanTo, Unfinished, Outside, Stands, Took, TookMore, EndsAs, Asked}
+use Rattle.sd_session.specs.Closing.{Accounts, NoneReserved}
+use Rattle.sd_session.specs.Running.{AskedAll, AskedLast, IsAskedTo, IsLeft, LeadsOn, RanTo, Unfinished, Outside, Stands, Took, TookMore, EndsAs, Asked}
 use Rattle.sd_session.specs.Stepping.{IsMade, IsRefused, RefusedAs}
 use Rattle.sd_session.proofs.Accounting.{account_over, account_reached, none_reserved}
 use Rattle.sd_session.proofs.HeldLaws.{over_holds_nothing}
@@ -69,7 +69,7 @@ pub record Leaves (o p : Outside) : Type 0 where
   pub writes : o.writes ≤ p.writes
 
 -- what is open where a session ended
-idle_unfinished : (ending : SessionEnd) (d : Daemon) (e : Engine) (own : List Entry) → AreLed d e.leads e.ticket own → NoneReserved d own → Unfinished ending d e own
+idle_unfinished : (ending : SessionEnd) (d : Daemon) (e : Engine) (own : List Entry) → IsLeft d e own → NoneReserved d own → Unfinished ending d e own
 idle_unfinished (ends.JournalFull count) d e own led none = led
 idle_unfinished ends.Memory d e own led none = led
 idle_unfinished ends.Closed d e own led none = none
@@ -84,10 +84,12 @@ idle_unfinished (ends.Long count) d e own led none = none
 pub idle : (ending : SessionEnd) (d : Daemon) (e : Engine) (own : List Entry) → e.client ≡ None → Accounts d e.leads e.ticket e.client own → Unfinished ending d e own
 idle ending d e own none a =
     let b : Accounts d e.leads e.ticket None own = subst (λ (x : Option Client). Accounts d e.leads e.ticket x own) none a in
-    idle_unfinished ending d e own b.led (none_reserved d own b.held)
+    idle_unfinished ending d e own (record { led = b.led; own = b.own }) (none_reserved d own b.held)
 
-led_as : (d : Daemon) (e f : Engine) (own : List Entry) → f.leads ≡ e.leads → f.ticket ≡ e.ticket → AreLed d e.leads e.ticket own → AreLed d f.leads f.ticket own
-led_as d e f own leads ticket led = subst (λ (ms : List ℕ). AreLed d ms f.ticket own) (sym leads) (subst (λ (o : Option ℕ). AreLed d e.leads o own) (sym ticket) led)
+left_as : (d : Daemon) (e f : Engine) (client : Option Client) (own : List Entry) → f.leads ≡ e.leads → f.ticket ≡ e.ticket → Accounts d e.leads e.ticket client own → IsLeft d f own
+left_as d e f client own leads ticket a =
+    let b : Accounts d f.leads f.ticket client own = account_by d e f client own leads ticket a in
+    record { led = b.led; own = b.own }
 
 pub ran_as : (w : Company) (seed : List ℕ) (config : Config) (d : Daemon) (before : Outside) (ending : SessionEnd) (e f : Engine) (daemon : Daemon) (o p : Outside) → (s : Stands w seed config d before e daemon o) → Leaves o p → HasNotFallen o.dialling.faults p.dialling.faults
     → Asked config ending (stand_after seed config d s.moves) before p → EndsAs w ending (stand_after seed config d s.moves) before p → Unfinished ending daemon f (stand_after seed config d s.moves).own → RanTo w seed config d before ending f daemon p
@@ -217,7 +219,7 @@ ran_starved w seed config d before e f daemon o p more lines s last leads ticket
       told = more_operations before.dialling.operations o.dialling.operations p.dialling.operations s0.operations more s.asked.operations operations;
       received = more_lines before.dialling.received o.dialling.received p.dialling.received s0.received lines s.asked.received received;
     })
-    (took_unread s0 e before o p left s.heard.consumed) (led_as daemon e f s0.own leads ticket s.account.led)
+    (took_unread s0 e before o p left s.heard.consumed) (left_as daemon e f e.client s0.own leads ticket s.account)
 
 same_operations : (known : Option (List Operation)) → known ≡ with_operations known []
 same_operations None = refl
@@ -250,10 +252,10 @@ ran_refused w seed config d before ending e daemon daemon' o p c event s is need
     reads = subst (λ (x : Outside). before.reads ≤ x.reads) (sym same) s.heard.reads;
     writes = subst (λ (x : Outside). before.writes ≤ x.writes) (sym same) s.written.writes;
   };
-  unfinished = left_open ending r.why (account_reached daemon daemon' e.leads e.ticket e.client (stand_after seed config d s.moves).own to s.account).led;
+  unfinished = left_open ending r.why (left_as daemon' e e e.client (stand_after seed config d s.moves).own refl refl (account_reached daemon daemon' e.leads e.ticket e.client (stand_after seed config d s.moves).own to s.account));
 }
   where
-    left_open : (end : SessionEnd) → RefusedAs daemon' event end → AreLed daemon' e.leads e.ticket (stand_after seed config d s.moves).own → Unfinished end daemon' e (stand_after seed config d s.moves).own
+    left_open : (end : SessionEnd) → RefusedAs daemon' event end → IsLeft daemon' e (stand_after seed config d s.moves).own → Unfinished end daemon' e (stand_after seed config d s.moves).own
     left_open (ends.JournalFull count) h led = led
     left_open ends.Memory h led = led
     left_open ends.Closed h led = absurd h
@@ -316,6 +318,6 @@ ran_untold w seed config d before e f daemon daemon' o p c event gave s is neede
         reads = subst (λ (x : Outside). before.reads ≤ x.reads) (sym same) s.heard.reads;
         writes = subst (λ (x : Outside). before.writes ≤ x.writes) (sym same) s.written.writes;
       };
-      unfinished = (led_by_step m.found daemon' m.now event e f gave (Some (client_replied c (given m.found m.now event))) (s0.own ++ entry_made m.found m.now event ∷ []) m.made m.gives about_it leads.leads leads.ticket
-          (step_account w daemon daemon' e o.trace p.trace c event gave s0.own is needed m to may (in_hand_as seed daemon e c is s.hand.in_hand).known.order s.account)).led;
+      unfinished = left_as daemon' f f _ _ refl refl (led_by_step m.found daemon' m.now event e f gave (Some (client_replied c (given m.found m.now event))) (s0.own ++ entry_made m.found m.now event ∷ []) m.made m.gives about_it leads.leads leads.ticket
+          (step_account w daemon daemon' e o.trace p.trace c event gave s0.own is needed m to may (in_hand_as seed daemon e c is s.hand.in_hand).known.order s.account));
     }

@@ -28,7 +28,7 @@ use Rattle.sd_engine.specs.Turns.{Dialling}
 use Rattle.sd_session.specs.Running.{Outside, outside_at}
 use Rattle.sd_session.specs.Sessions.{Company, Trace, Move, Finds, Hears, Steps, Refuses, Fetches, Binds, Tells, Breaks, Finishes, Stand, AllMay, stand_after}
 use Rattle.sd_session.specs.Stepping.{IsMade, RefusedAs, end_of}
-use Rattle.sd_session.specs.Withdrawing.{Try, after_tries, gives_up, AllGiveUp, Withdraws, MayWithdraw, Session, is_abrupt}
+use Rattle.sd_session.specs.Withdrawing.{Try, after_tries, gives_up, giving_up, AllGiveUp, Withdraws, MayWithdraw, Session, is_abrupt}
 use Rattle.sd_session.proofs.Carrying.{Far, Forgot as ForgotBefore}
 
 pub far_at_desk : Far at_desk
@@ -179,13 +179,13 @@ reach_tries w far d (t ∷ tries) all =
     either t.is_made d (after t.found t.now t.event) t.found (reaches_through d t.found (after t.found t.now t.event) to (one_step t.found t.now t.event (may_give_up t.found t.event all.0))) to
 
 -- what is given up leads to a journal that is reached
-pub withdraws_reach : (w : Company) → Far w → (d daemon : Daemon) (before now : Trace) → Withdraws w d daemon before now → Reaches d daemon
-withdraws_reach w far d daemon before now s = subst (Reaches d) (sym s.given_up) (reach_tries w far d s.tries s.give_up)
+pub withdraws_reach : (w : Company) → Far w → (events : List Event) (d daemon : Daemon) (before now : Trace) → Withdraws w events d daemon before now → Reaches d daemon
+withdraws_reach w far events d daemon before now s = subst (Reaches d) (sym s.given_up) (reach_tries w far d s.tries s.give_up)
 
-reach_leaving : (abrupt : Bool) (d daemon : Daemon) (before now : Trace) → MayWithdraw at_desk abrupt d daemon before now → Reaches d daemon
-reach_leaving true d daemon before now w = withdraws_reach at_desk far_at_desk d daemon before now w
-reach_leaving false d daemon before now w = subst (Reaches d) (sym w.0) (reaches_self d)
+reach_leaving : (abrupt : Bool) (own : List Entry) (d daemon : Daemon) (before now : Trace) → MayWithdraw at_desk abrupt own d daemon before now → Reaches d daemon
+reach_leaving true own d daemon before now w = withdraws_reach at_desk far_at_desk (giving_up w.leads w.ticket) d daemon before now w.withdraws
+reach_leaving false own d daemon before now w = subst (Reaches d) (sym w.0) (reaches_self d)
 
 pub session_reaches : (seed : List ℕ) (config : Config) (d : Daemon) (before : Outside) (ending : SessionEnd) (daemon : Daemon) (now : Outside) → Session at_desk seed config d before ending daemon now → Reaches d daemon
 session_reaches seed config d before ending daemon now s =
-    reaches_through d s.between daemon (subst (Reaches d) (sym s.ran.stepped) (reach_moves seed config before.dialling.behind d s.ran.moves s.ran.may)) (reach_leaving (is_abrupt ending) s.between daemon s.trace now.trace s.withdraws)
+    reaches_through d s.between daemon (subst (Reaches d) (sym s.ran.stepped) (reach_moves seed config before.dialling.behind d s.ran.moves s.ran.may)) (reach_leaving (is_abrupt ending) (stand_after seed config d s.ran.moves).own s.between daemon s.trace now.trace s.withdraws)

@@ -50,10 +50,10 @@ module _ {C : Type 0} (k : clocks.Ghosts C) (desk : Desk) where
   StepsOn ending e seat clock f seat' clock' =
       running.TurnedBySteps at_desk ending e (front desk seat) (trace_at (k.readings clock) seat) f (front desk seat') (trace_at (k.readings clock') seat')
 
-  -- at an end that leaves something, it is given up
-  abbrev pub MayWithdraw : SessionEnd → DeskSeat → C → DeskSeat → C → Type 0
-  MayWithdraw ending seat clock seat' clock' =
-      withdrawing.MayWithdraw at_desk (withdrawing.is_abrupt ending) (front desk seat) (front desk seat') (trace_at (k.readings clock) seat) (trace_at (k.readings clock') seat')
+  -- at an end that leaves something, these are given up
+  abbrev pub MayTry : SessionEnd → List Event → DeskSeat → C → DeskSeat → C → Type 0
+  MayTry ending events seat clock seat' clock' =
+      withdrawing.MayTry at_desk (withdrawing.is_abrupt ending) events (front desk seat) (front desk seat') (trace_at (k.readings clock) seat) (trace_at (k.readings clock') seat')
 
 -- ---- sessions over a source, a sink, a dialer and a clock, which tell r, w, t and k
 

@@ -29,7 +29,7 @@ use Rattle.sd_engine.specs.Engines.{Engine, replied}
 use Rattle.sd_engine.specs.Leading.{about, leads_after, ticket_after}
 use Rattle.sd_engine.specs.Turns.{Dialling, dialling_of}
 use Rattle.sd_session.specs.Holding.{is_told}
-use Rattle.sd_session.specs.Closing.{Accounts, AreLed, NoneReserved}
+use Rattle.sd_session.specs.Closing.{Accounts, AreLed, AreOwn, NoneReserved}
 use Rattle.sd_session.specs.Sessions.{Company, Move, Stand, Trace, AllMay, IsListening, TracesOn, stand_after, frames_of, last_stops, CountsFalls}
 
 -- What is told of the outside at a moment: the bytes left, the bytes held, the session's own steps, the counts of faults of source and
@@ -215,10 +215,15 @@ pub record Ran (w : Company) (seed : List ℕ) (config : Config) (d : Daemon) (b
   pub reads : before.reads ≤ now.reads
   pub writes : before.writes ≤ now.writes
 
+-- all that own entries opened is led, where it is open, and nothing else is led
+pub record IsLeft (d : Daemon) (engine : Engine) (own : List Entry) : Type 0 where
+  pub led : AreLed d engine.leads engine.ticket own
+  pub own : AreOwn engine.leads engine.ticket own
+
 -- What is open of what own entries opened: only a full journal and want of memory leave something, which the session leads.
 abbrev pub Unfinished : SessionEnd → Daemon → Engine → List Entry → Type 0
-Unfinished (ends.JournalFull count) d engine own = AreLed d engine.leads engine.ticket own
-Unfinished ends.Memory d engine own = AreLed d engine.leads engine.ticket own
+Unfinished (ends.JournalFull count) d engine own = IsLeft d engine own
+Unfinished ends.Memory d engine own = IsLeft d engine own
 Unfinished _ d engine own = NoneReserved d own
 
 -- a session that ran to its end, and what its engine then leads

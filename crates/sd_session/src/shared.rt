@@ -149,7 +149,7 @@ fn run<R: Wait, S: Source, W: Sink, D: Dialer, C: Clock, G: Gate>(
 }
 
 /// Gives up what a session leads and waits with, where its end leaves something.
-#[tactic(auto, using(crate::proofs::GivingUp::may_withdraw, crate::proofs::GivingUp::keeps_all))]
+#[tactic(auto, using(crate::proofs::GivingUp::may_try, crate::proofs::GivingUp::keeps_all))]
 fn give_up<R: Wait, C: Clock>(
     rt: &R,
     desk: &Desk,
@@ -163,7 +163,7 @@ fn give_up<R: Wait, C: Clock>(
     ensures own { IsOwn desk.now seat.new }
     ensures free { HoldsNoTurn seat.new }
     ensures same { IsSameSeat seat.old seat.new }
-    ensures withdraws { desks.MayWithdraw C.Clock desk.now end seat.old clock.old seat.new clock.new }
+    ensures withdraws { desks.MayTry C.Clock desk.now end (withdrawing.giving_up engine.now.leads engine.now.ticket) seat.old clock.old seat.new clock.new }
     ensures gives_up { withdrawing.is_abrupt end ≡ true → GivesUp (front desk.now seat.old) (front desk.now seat.new) engine.now.leads engine.now.ticket }
 {
     if !is_abrupt(end) {

@@ -8,7 +8,7 @@ pub returns-clause-withdraws : goal.returns-clause-withdraws
 returns-clause-withdraws g c = one_try at_desk _ _ _ _ _ c.step.result c.requires.gives_up c.step.ensures.made c.step.ensures.refused
 
 pub returns-clause-reaches : goal.returns-clause-reaches
-returns-clause-reaches g c = withdraws_reach at_desk far_at_desk _ _ _ _ (one_try at_desk _ _ _ _ _ c.step.result c.requires.gives_up c.step.ensures.made c.step.ensures.refused)
+returns-clause-reaches g c = withdraws_reach at_desk far_at_desk _ _ _ _ _ (one_try at_desk _ _ _ _ _ c.step.result c.requires.gives_up c.step.ensures.made c.step.ensures.refused)
 
 pub returns-clause-over : goal.returns-clause-over
 returns-clause-over g c = over_tried at_desk _ _ c.args.event c.step.result _ _ far_at_desk c.step.ensures.made c.step.ensures.over

@@ -1,5 +1,6 @@
 use Rattle.sd_desk.specs.Desks.{front}
 use Rattle.sd_session.specs.Desks.{at_desk, trace_at}
+use Rattle.sd_session.proofs.GivingUp.{gives_up_own}
 use Rattle.sd_session.proofs.OverLaws.{closed_at_end}
 use Rattle.sd_session.proofs.Sharing.{session_as, session_reaches}
 use Rattle.sd_session.proofs.shared.session.Goals as goal
@@ -11,7 +12,7 @@ returns-clause-session g c =
       between = front c.args.desk.now c.run-end.new.seat;
       trace = trace_at (g.C.Clock.readings c.run-end.new.clock) c.run-end.new.seat;
       ran = c.run-end.ensures.ran.ran;
-      withdraws = c.give_up.ensures.withdraws;
+      withdraws = gives_up_own at_desk c.run-end.result _ _ c.run-end.new.engine _ _ _ c.run-end.ensures.ran.unfinished c.give_up.ensures.withdraws;
       closed = closed_at_end at_desk c.run-end.result _ _ c.run-end.new.engine _ _ _ c.run-end.ensures.ran.unfinished c.give_up.ensures.gives_up c.give_up.ensures.withdraws;
     })
 
@@ -22,6 +23,6 @@ returns-clause-reaches g c =
       between = front c.args.desk.now c.run-end.new.seat;
       trace = trace_at (g.C.Clock.readings c.run-end.new.clock) c.run-end.new.seat;
       ran = c.run-end.ensures.ran.ran;
-      withdraws = c.give_up.ensures.withdraws;
+      withdraws = gives_up_own at_desk c.run-end.result _ _ c.run-end.new.engine _ _ _ c.run-end.ensures.ran.unfinished c.give_up.ensures.withdraws;
       closed = closed_at_end at_desk c.run-end.result _ _ c.run-end.new.engine _ _ _ c.run-end.ensures.ran.unfinished c.give_up.ensures.gives_up c.give_up.ensures.withdraws;
     })
