@@ -1,5 +1,5 @@
 -- How a session ends where it stands.
-use Rattle.std.proofs.Common.{◌≡◌, ◌∙◌, inl, ℕ, ◌+◌, ◌≤◌, true, false, List, [], ◌∷◌, ◌++◌, length, Option, Some, None, refl, sym, ap, subst, append_assoc, append-nil, length-append, arith}
+use Rattle.std.proofs.Common.{◌≡◌, ◌∙◌, inl, ℕ, ◌+◌, ◌≤◌, Bool, true, false, List, [], ◌∷◌, ◌++◌, length, Option, Some, None, refl, sym, ap, subst, append_assoc, append-nil, length-append, arith}
 use Rattle.std.specs.Io.KnownBytes.{Appends, Consumes}
 use Rattle.std.proofs.KnownBytes.{Consumes-trans}
 use Rattle.sd_base.specs.Causes.{Rose}
@@ -28,7 +28,8 @@ use Rattle.sd_session.specs.Running.{AskedAll, AskedLast, IsAskedTo, IsLeft, Lea
 use Rattle.sd_session.specs.Stepping.{IsMade, IsRefused, RefusedAs}
 use Rattle.sd_session.proofs.Accounting.{account_over, account_reached, none_reserved}
 use Rattle.sd_session.proofs.HeldLaws.{over_holds_nothing}
-use Rattle.sd_session.proofs.Standing.{more_operations, more_lines, reads_more, may_step_on, traces_step, listens_by, account_by, in_hand_as, step_account, led_by_step}
+use Rattle.sd_session.proofs.HoldingLaws.{untrue}
+use Rattle.sd_session.proofs.Standing.{falls_by, falls_none, more_operations, more_lines, reads_more, may_step_on, traces_step, listens_by, account_by, in_hand_as, step_account, led_by_step}
 
 operations_same : (known now : Option (List Operation)) (all : List Operation) → now ≡ with_operations known all → now ≡ with_operations known (all ++ [])
 operations_same known now all e = e ∙ ap (with_operations known) (sym (append-nil all))
@@ -44,19 +45,21 @@ all_asked s t before d e operations received same asked = record {
 }
 
 -- the same, where no lookup was cut short
-asked_as : (config : Config) (ending : SessionEnd) (s : Stand) (before p : Outside) → AskedAll s before.dialling p.dialling → Asked config ending s before p
-asked_as config ends.Closed s before p e = e
-asked_as config ends.Stopped s before p e = e
-asked_as config ends.ReadFault s before p e = e
-asked_as config ends.WriteFault s before p e = e
-asked_as config (ends.BadFrame at) s before p e = e
-asked_as config ends.Cut s before p e = e
-asked_as config (ends.Long count) s before p e = e
-asked_as config (ends.JournalFull count) s before p e = e
-asked_as config ends.Memory s before p e = record {
+asked_as : (config : Config) (ending : SessionEnd) (s : Stand) (before p : Outside) → CountsFalls before.dialling.faults s.falls p.dialling.faults → AskedAll s before.dialling p.dialling → Asked config ending s before p
+asked_as config ends.Closed s before p counted e = e
+asked_as config ends.Stopped s before p counted e = e
+asked_as config ends.ReadFault s before p counted e = e
+asked_as config ends.WriteFault s before p counted e = e
+asked_as config (ends.BadFrame at) s before p counted e = e
+asked_as config ends.Cut s before p counted e = e
+asked_as config (ends.Long count) s before p counted e = e
+asked_as config (ends.JournalFull count) s before p counted e = e
+asked_as config ends.Memory s before p counted e = record {
   more = [];
   lines = [];
+  fell = false;
   last = inl (refl, refl);
+  falls = falls_none before.dialling.faults s.falls p.dialling.faults counted;
   told = operations_same before.dialling.operations p.dialling.operations s.operations e.operations;
   received = lines_same before.dialling.received p.dialling.received s.received e.received;
 }
@@ -158,7 +161,7 @@ ran_hearing w seed config d before ending e f daemon o p s none same l dialling 
     let s0 : Stand = stand_after seed config d s.moves in
     subst (λ (x : Engine). RanTo w seed config d before ending x daemon p) (sym same)
     (ran_as w seed config d before ending e e daemon o p s l (subst (λ (x : Dialling). HasNotFallen o.dialling.faults x.faults) (sym dialling) (omega arith))
-    (asked_as config ending s0 before p (all_asked s0 s0 before.dialling o.dialling p.dialling refl refl dialling s.asked))
+    (asked_as config ending s0 before p (subst (λ (x : Dialling). CountsFalls before.dialling.faults s0.falls x.faults) (sym dialling) s.asked.falls) (all_asked s0 s0 before.dialling o.dialling p.dialling refl refl dialling s.asked))
     (heard_ends w ending s0 e before o p (listens_by w seed config d before e daemon o s none) s.heard.consumed s.heard.place s.heard.reads h)
     (idle ending daemon e s0.own none s.account))
 
@@ -180,7 +183,7 @@ ran_finished w seed config d before ending e f daemon o p c s is needed new l di
         stepped = s.hand.same;
         written = subst (λ (x : Option (List ℕ)). Appends before.held x s0.written) (sym l.held) s.written.written;
         trace = subst (TracesOn before.trace s0) (sym l.trace) s.trace;
-        operations = asked_as config ending t before p (all_asked s0 t before.dialling o.dialling p.dialling refl refl dialling s.asked);
+        operations = asked_as config ending t before p (subst (λ (x : Dialling). CountsFalls before.dialling.faults s0.falls x.faults) (sym dialling) s.asked.falls) (all_asked s0 t before.dialling o.dialling p.dialling refl refl dialling s.asked);
         falls = subst (λ (x : Dialling). CountsFalls before.dialling.faults s0.falls x.faults) (sym dialling) s.asked.falls;
         why = why;
         failed = λ b. let rose = s.written.failed b in omega (arith, rose, l.writes);
@@ -207,15 +210,17 @@ ran_write_fault w seed config d before e f daemon o p c s is needed failed new l
     (refl, sym s.written.broken ∙ failed, took_unread (moved seed config (stand_after seed config d s.moves) Finishes) e before o p left s.heard.consumed)
 
 -- memory was wanting, maybe for what a lookup or a bind came to
-pub ran_starved : (w : Company) (seed : List ℕ) (config : Config) (d : Daemon) (before : Outside) (e f : Engine) (daemon : Daemon) (o p : Outside) (more : List Operation) (lines : List (List ℕ)) → (s : Stands w seed config d before e daemon o) → AskedLast config (stand_after seed config d s.moves) more lines → f.leads ≡ e.leads → f.ticket ≡ e.ticket → Leaves o p → p.left ≡ o.left
+pub ran_starved : (w : Company) (seed : List ℕ) (config : Config) (d : Daemon) (before : Outside) (e f : Engine) (daemon : Daemon) (o p : Outside) (more : List Operation) (lines : List (List ℕ)) (fell : Bool) → (s : Stands w seed config d before e daemon o) → AskedLast config (stand_after seed config d s.moves) more lines fell → (fell ≡ true → Rose o.dialling.faults p.dialling.faults) → f.leads ≡ e.leads → f.ticket ≡ e.ticket → Leaves o p → p.left ≡ o.left
     → HasNotFallen o.dialling.faults p.dialling.faults → p.dialling.operations ≡ with_operations o.dialling.operations more → p.dialling.received ≡ with_lines o.dialling.received lines → RanTo w seed config d before ends.Memory f daemon p
-ran_starved w seed config d before e f daemon o p more lines s last leads ticket l left later operations received =
+ran_starved w seed config d before e f daemon o p more lines fell s last rose leads ticket l left later operations received =
     let s0 : Stand = stand_after seed config d s.moves in
     ran_as w seed config d before ends.Memory e f daemon o p s l later
     (record {
       more = more;
       lines = lines;
+      fell = fell;
       last = last;
+      falls = falls_by before.dialling.faults s0.falls o.dialling.faults p.dialling.faults fell s.asked.falls later rose;
       told = more_operations before.dialling.operations o.dialling.operations p.dialling.operations s0.operations more s.asked.operations operations;
       received = more_lines before.dialling.received o.dialling.received p.dialling.received s0.received lines s.asked.received received;
     })
@@ -231,7 +236,7 @@ same_lines (Some lines) = ap Some (sym (append-nil lines))
 
 pub ran_idle : (w : Company) (seed : List ℕ) (config : Config) (d : Daemon) (before : Outside) (e : Engine) (daemon : Daemon) (o : Outside) → Stands w seed config d before e daemon o → RanTo w seed config d before ends.Memory e daemon o
 ran_idle w seed config d before e daemon o s =
-    ran_starved w seed config d before e e daemon o o [] [] s (inl (refl, refl)) refl refl (record { held = refl; trace = refl; reads = omega arith; writes = omega arith }) refl (omega arith) (same_operations o.dialling.operations) (same_lines o.dialling.received)
+    ran_starved w seed config d before e e daemon o o [] [] false s (inl (refl, refl)) (λ fell. untrue fell) refl refl (record { held = refl; trace = refl; reads = omega arith; writes = omega arith }) refl (omega arith) (same_operations o.dialling.operations) (same_lines o.dialling.received)
 
 -- ---- ends by a step
 
@@ -245,7 +250,7 @@ ran_refused w seed config d before ending e daemon daemon' o p c event s is need
     stepped = refl;
     written = subst (λ (x : Outside). Appends before.held x.held s0.written) (sym same) s.written.written;
     trace = (reads_more before.trace.readings o.trace.readings p.trace.readings s0.moments r.now s.trace.0 r.read, r.entries ∙ s.trace.1);
-    operations = asked_as config ending t before p (all_asked s0 t before.dialling o.dialling p.dialling refl refl (ap (λ (x : Outside). x.dialling) same) s.asked);
+    operations = asked_as config ending t before p (subst (λ (x : Outside). CountsFalls before.dialling.faults s0.falls x.dialling.faults) (sym same) s.asked.falls) (all_asked s0 t before.dialling o.dialling p.dialling refl refl (ap (λ (x : Outside). x.dialling) same) s.asked);
     falls = subst (λ (x : Outside). CountsFalls before.dialling.faults s0.falls x.dialling.faults) (sym same) s.asked.falls;
     why = by_end ending r.why forgot;
     failed = λ b. subst (λ (x : Outside). Rose before.writes x.writes) (sym same) (s.written.failed b);
@@ -311,7 +316,7 @@ ran_untold w seed config d before e f daemon daemon' o p c event gave s is neede
         stepped = m.made;
         written = subst (λ (x : Outside). Appends before.held x.held s0.written) (sym same) s.written.written;
         trace = traces_step w before.trace o.trace p.trace s0 daemon daemon' event gave s.trace m;
-        operations = asked_as config ends.Memory t before p (all_asked s0 t before.dialling o.dialling p.dialling refl refl (ap (λ (x : Outside). x.dialling) same) s.asked);
+        operations = asked_as config ends.Memory t before p (subst (λ (x : Outside). CountsFalls before.dialling.faults s0.falls x.dialling.faults) (sym same) s.asked.falls) (all_asked s0 t before.dialling o.dialling p.dialling refl refl (ap (λ (x : Outside). x.dialling) same) s.asked);
         falls = subst (λ (x : Outside). CountsFalls before.dialling.faults s0.falls x.dialling.faults) (sym same) s.asked.falls;
         why = took_unread t e before o p (ap (λ (x : Outside). x.left) same) s.heard.consumed;
         failed = λ b. subst (λ (x : Outside). Rose before.writes x.writes) (sym same) (s.written.failed b);

@@ -1,19 +1,15 @@
 -- What a turn makes of where a session stands.
-use Rattle.std.proofs.Common.{◌≡◌, ◌∙◌, ℕ, ◌+◌, ◌≤◌, Bool, true, false, List, [], ◌∷◌, ◌++◌, length, zero, suc, Option, Some, None, refl, sym, ap, subst, append_assoc, length-append, arith}
-use Rattle.std.specs.Prelude.{IfSome}
+use Rattle.std.proofs.Common.{◌≡◌, ◌∙◌, ℕ, ◌+◌, ◌≤◌, Bool, true, false, List, [], ◌∷◌, ◌++◌, length, Option, Some, None, refl, sym, ap, subst, append_assoc, length-append, arith}
+use Rattle.std.specs.Prelude.{IfSome, ◌-◌, ◌^◌, min, nat_le}
+use Rattle.std.proofs.lemmas.Bool.Decides.{nat_tests}
 use Rattle.std.specs.Option.{option_map}
 use Rattle.std.specs.Io.KnownBytes.{Appends, Consumes}
 use Rattle.std.proofs.KnownBytes.{Appends-trans, Consumes-trans}
 use Rattle.sd_base.specs.Causes.{Rose}
-use Rattle.sd_base.specs.declared.Why.TheVariants as whys
 use Rattle.sd_rules.specs.declared.events.Event.{Event}
 use Rattle.sd_rules.specs.declared.keys.Key.{Key}
 use Rattle.sd_rules.specs.declared.replies.Entry.{Entry}
 use Rattle.sd_rules.specs.declared.replies.Given.{Given}
-use Rattle.sd_rules.specs.declared.tasks.Bound.{Bound}
-use Rattle.sd_rules.specs.declared.tasks.Bound.TheVariants as bounds
-use Rattle.sd_rules.specs.declared.tasks.Fetched.{Fetched}
-use Rattle.sd_rules.specs.declared.tasks.Fetched.TheVariants as fetches
 use Rattle.sd_rules.specs.declared.tasks.Need.TheVariants as needs
 use Rattle.sd_rules.specs.declared.tasks.Said.{Said}
 use Rattle.sd_rules.specs.Reaching.{Reaches}
@@ -25,6 +21,7 @@ use Rattle.sd_dial.specs.Operations.{Operation}
 use Rattle.sd_engine.specs.Counting.{HasNotFallen}
 use Rattle.sd_engine.specs.Lookups.{with_operations}
 use Rattle.sd_engine.specs.Received.{with_lines}
+use Rattle.sd_engine.proofs.Asking.{lookup_operations_on, bind_operations_on}
 use Rattle.sd_inbox.specs.Taking.{Unread}
 use Rattle.sd_wire.specs.declared.requests.Request.{Request}
 use Rattle.sd_wire.specs.Frames.{frame_of}
@@ -33,7 +30,7 @@ use Rattle.sd_engine.specs.Engines.{Engine, client_of, heard, awaiting, done, re
 use Rattle.sd_engine.specs.Names.{holds_order}
 use Rattle.sd_engine.specs.Leading.{about, leads_after, ticket_after}
 use Rattle.sd_engine.specs.Turns.{Dialling, HearsRequest, HearsBytes, GoesByFetch, GoesByBind, IsTold, IsUntold}
-use Rattle.sd_session.specs.Sessions.{Company, Move, Finds, Hears, Steps, Refuses, Fetches, Binds, Tells, Breaks, Finishes, Stand, AllMay, IsListening, moved, stand_after, frames_of, last_stops, ReadsOn, Trace, TracesOn, CountsFalls, fetch_falls, bind_falls}
+use Rattle.sd_session.specs.Sessions.{Company, Move, Finds, Hears, Steps, Refuses, Fetches, Binds, Tells, Breaks, Finishes, Stand, AllMay, IsListening, moved, stand_after, frames_of, last_stops, ReadsOn, Trace, TracesOn, CountsFalls, count_of}
 use Rattle.sd_session.specs.Spoken.{IsSpoken}
 use Rattle.sd_session.specs.Holding.{is_told}
 use Rattle.sd_session.specs.Running.{WasTold, Outside, IsInHand, IsHeardTo, IsWrittenTo, IsAskedTo, Stands}
@@ -63,60 +60,34 @@ reads_more before None (Some readings) moments moment e f = absurd f
 reads_more None (Some earlier) (Some readings) moments moment e f = absurd e
 reads_more (Some first) (Some earlier) (Some readings) moments moment e f = f ∙ ap (λ (list : List ℕ). list ++ moment ∷ []) e ∙ append_assoc first moments (moment ∷ [])
 
-pub falls_more : (before falls between now one : ℕ) → CountsFalls before falls between → HasNotFallen between now → one ≤ 1 → (one ≡ 1 → Rose between now) → CountsFalls before (falls + one) now
-falls_more before falls between now one counted later small rose = by_one one refl small
+-- whether a count of faults rose
+abbrev pub has_risen : ℕ → ℕ → Bool
+has_risen before now = nat_le (min (before + 1) (2 ^ 64 - 1)) now
+
+pub risen : (before now : ℕ) → Rose before now → has_risen before now ≡ true
+risen before now rose = at_most (min (before + 1) (2 ^ 64 - 1)) now rose
   where
-    by_one : (n : ℕ) → one ≡ n → n ≤ 1 → CountsFalls before (falls + one) now
-    by_one zero e s = omega (arith, e, counted, later)
-    by_one (suc n) e s = let risen : Rose between now = rose (omega (arith, e, s)) in omega (arith, e, s, counted, risen)
+    at_most : (m n : ℕ) → m ≤ n → nat_le m n ≡ true
+    at_most m n h = grind (arith, nat_tests, h)
+
+pub rose_by : (before now : ℕ) → has_risen before now ≡ true → Rose before now
+rose_by before now h = at_most (min (before + 1) (2 ^ 64 - 1)) now h
+  where
+    at_most : (m n : ℕ) → nat_le m n ≡ true → m ≤ n
+    at_most m n h = grind (arith, nat_tests, h)
+
+pub falls_by : (before falls between now : ℕ) (fell : Bool) → CountsFalls before falls between → HasNotFallen between now → (fell ≡ true → Rose between now) → CountsFalls before (falls + count_of fell) now
+falls_by before falls between now true counted later rose = let up = rose refl in omega (arith, counted, up)
+falls_by before falls between now false counted later rose = omega (arith, counted, later)
+
+pub falls_more : (before falls between now : ℕ) → CountsFalls before falls between → HasNotFallen between now → CountsFalls before (falls + count_of (has_risen between now)) now
+falls_more before falls between now counted later = falls_by before falls between now (has_risen between now) counted later (rose_by between now)
+
+pub falls_none : (before falls now : ℕ) → CountsFalls before falls now → CountsFalls before (falls + count_of false) now
+falls_none before falls now counted = omega (arith, counted)
 
 pub fallen_later : (a b c : ℕ) → HasNotFallen a b → HasNotFallen b c → HasNotFallen a c
 fallen_later a b c e f = omega (arith, e, f)
-
-pub fetch_falls_small : (f : Fetched) → fetch_falls f ≤ 1
-fetch_falls_small (fetches.Found found) = omega arith
-fetch_falls_small fetches.Absent = omega arith
-fetch_falls_small (fetches.Refused code) = omega arith
-fetch_falls_small (fetches.Many count) = omega arith
-fetch_falls_small (fetches.Failed whys.Link) = omega arith
-fetch_falls_small (fetches.Failed (whys.Bytes at)) = omega arith
-fetch_falls_small (fetches.Failed (whys.Code code)) = omega arith
-fetch_falls_small (fetches.Failed (whys.Message tag)) = omega arith
-fetch_falls_small (fetches.Failed (whys.Flood count)) = omega arith
-fetch_falls_small fetches.Memory = omega arith
-
-none_is_one : (P : Type 0) (n : ℕ) → n ≡ zero → n ≡ suc zero → P
-none_is_one P n e h = absurd (omega (arith, e, h))
-
-fetch_fell : (f : Fetched) → fetch_falls f ≡ 1 → f ≡ fetches.Failed whys.Link
-fetch_fell (fetches.Found found) h = none_is_one _ (fetch_falls (fetches.Found found)) refl h
-fetch_fell fetches.Absent h = none_is_one _ (fetch_falls fetches.Absent) refl h
-fetch_fell (fetches.Refused code) h = none_is_one _ (fetch_falls (fetches.Refused code)) refl h
-fetch_fell (fetches.Many count) h = none_is_one _ (fetch_falls (fetches.Many count)) refl h
-fetch_fell (fetches.Failed whys.Link) h = refl
-fetch_fell (fetches.Failed (whys.Bytes at)) h = none_is_one _ (fetch_falls (fetches.Failed (whys.Bytes at))) refl h
-fetch_fell (fetches.Failed (whys.Code code)) h = none_is_one _ (fetch_falls (fetches.Failed (whys.Code code))) refl h
-fetch_fell (fetches.Failed (whys.Message tag)) h = none_is_one _ (fetch_falls (fetches.Failed (whys.Message tag))) refl h
-fetch_fell (fetches.Failed (whys.Flood count)) h = none_is_one _ (fetch_falls (fetches.Failed (whys.Flood count))) refl h
-fetch_fell fetches.Memory h = none_is_one _ (fetch_falls fetches.Memory) refl h
-
-bind_falls_small : (b : Bound) → bind_falls b ≤ 1
-bind_falls_small (bounds.Code code) = omega arith
-bind_falls_small (bounds.Failed whys.Link) = omega arith
-bind_falls_small (bounds.Failed (whys.Bytes at)) = omega arith
-bind_falls_small (bounds.Failed (whys.Code code)) = omega arith
-bind_falls_small (bounds.Failed (whys.Message tag)) = omega arith
-bind_falls_small (bounds.Failed (whys.Flood count)) = omega arith
-bind_falls_small bounds.Memory = omega arith
-
-bind_fell : (b : Bound) → bind_falls b ≡ 1 → b ≡ bounds.Failed whys.Link
-bind_fell (bounds.Code code) h = none_is_one _ (bind_falls (bounds.Code code)) refl h
-bind_fell (bounds.Failed whys.Link) h = refl
-bind_fell (bounds.Failed (whys.Bytes at)) h = none_is_one _ (bind_falls (bounds.Failed (whys.Bytes at))) refl h
-bind_fell (bounds.Failed (whys.Code code)) h = none_is_one _ (bind_falls (bounds.Failed (whys.Code code))) refl h
-bind_fell (bounds.Failed (whys.Message tag)) h = none_is_one _ (bind_falls (bounds.Failed (whys.Message tag))) refl h
-bind_fell (bounds.Failed (whys.Flood count)) h = none_is_one _ (bind_falls (bounds.Failed (whys.Flood count))) refl h
-bind_fell bounds.Memory h = none_is_one _ (bind_falls bounds.Memory) refl h
 
 -- ---- moves
 
@@ -328,7 +299,7 @@ pub stands_fetches : (w : Company) (seed : List ℕ) (config : Config) (d : Daem
     → need_of c ≡ needs.Fetch server key → GoesByFetch config server key (done e) c f o.dialling p.dialling → Quiet o p → p.held ≡ o.held → o.writes ≤ p.writes → Stands w seed config d before f daemon p
 stands_fetches w seed config d before e f daemon o p c server key s is needed g quiet held writes =
     let s0 : Stand = stand_after seed config d s.moves in
-    let move : Move = Fetches g.fetched g.lookup.asked.operations g.lookup.asked.lines in
+    let move : Move = Fetches g.fetched g.lookup.asked.operations g.lookup.asked.lines (has_risen o.dialling.faults p.dialling.faults) in
     let t : Stand = moved seed config s0 move in
     let hand : IsInHand seed daemon c = in_hand_as seed daemon e c is s.hand.in_hand in
     record {
@@ -341,7 +312,8 @@ stands_fetches w seed config d before e f daemon o p c server key s is needed g 
           key = key;
           needed = needed;
           memory = g.memory;
-          asked = g.lookup.asked.are;
+          asked = lookup_operations_on config key server g.fetched _ _ g.lookup.asked.operations g.lookup.asked.lines (risen o.dialling.faults p.dialling.faults) g.lookup.asked.are;
+          fallen = λ fell. risen o.dialling.faults p.dialling.faults (g.lookup.fallen fell);
           told = λ b behind. g.lookup.told b (s.asked.behind server ∙ behind);
         },
         s.may,
@@ -360,7 +332,7 @@ stands_fetches w seed config d before e f daemon o p c server key s is needed g 
         operations = more_operations before.dialling.operations o.dialling.operations p.dialling.operations s0.operations g.lookup.asked.operations s.asked.operations g.lookup.asked.told;
         received = more_lines before.dialling.received o.dialling.received p.dialling.received s0.received g.lookup.asked.lines s.asked.received g.lookup.asked.received;
         behind = λ i. g.lookup.behind i ∙ s.asked.behind i;
-        falls = falls_more before.dialling.faults s0.falls o.dialling.faults p.dialling.faults (fetch_falls g.fetched) s.asked.falls g.lookup.later (fetch_falls_small g.fetched) (λ one. g.lookup.fallen (fetch_fell g.fetched one));
+        falls = falls_more before.dialling.faults s0.falls o.dialling.faults p.dialling.faults s.asked.falls g.lookup.later;
         later = fallen_later _ _ _ s.asked.later g.lookup.later;
       };
       account = account_by daemon e f f.client t.own (ap (λ (x : Engine). x.leads) g.after) (ap (λ (x : Engine). x.ticket) g.after)
@@ -371,7 +343,7 @@ pub stands_binds : (w : Company) (seed : List ℕ) (config : Config) (d : Daemon
     → need_of c ≡ needs.Bind server dn password → GoesByBind server dn password (done e) c f o.dialling p.dialling → Quiet o p → p.held ≡ o.held → o.writes ≤ p.writes → Stands w seed config d before f daemon p
 stands_binds w seed config d before e f daemon o p c server dn password s is needed g quiet held writes =
     let s0 : Stand = stand_after seed config d s.moves in
-    let move : Move = Binds g.bound g.bind.asked.operations g.bind.asked.lines in
+    let move : Move = Binds g.bound g.bind.asked.operations g.bind.asked.lines (has_risen o.dialling.faults p.dialling.faults) in
     let t : Stand = moved seed config s0 move in
     let hand : IsInHand seed daemon c = in_hand_as seed daemon e c is s.hand.in_hand in
     record {
@@ -385,7 +357,8 @@ stands_binds w seed config d before e f daemon o p c server dn password s is nee
           password = password;
           needed = needed;
           memory = g.memory;
-          asked = g.bind.asked.are;
+          asked = bind_operations_on dn password server g.bound _ _ g.bind.asked.operations g.bind.asked.lines (risen o.dialling.faults p.dialling.faults) g.bind.asked.are;
+          fallen = λ fell. risen o.dialling.faults p.dialling.faults (g.bind.fallen fell);
           told = λ b behind. g.bind.told b (s.asked.behind server ∙ behind);
         },
         s.may,
@@ -404,7 +377,7 @@ stands_binds w seed config d before e f daemon o p c server dn password s is nee
         operations = more_operations before.dialling.operations o.dialling.operations p.dialling.operations s0.operations g.bind.asked.operations s.asked.operations g.bind.asked.told;
         received = more_lines before.dialling.received o.dialling.received p.dialling.received s0.received g.bind.asked.lines s.asked.received g.bind.asked.received;
         behind = λ i. g.bind.behind i ∙ s.asked.behind i;
-        falls = falls_more before.dialling.faults s0.falls o.dialling.faults p.dialling.faults (bind_falls g.bound) s.asked.falls g.bind.later (bind_falls_small g.bound) (λ one. g.bind.fallen (bind_fell g.bound one));
+        falls = falls_more before.dialling.faults s0.falls o.dialling.faults p.dialling.faults s.asked.falls g.bind.later;
         later = fallen_later _ _ _ s.asked.later g.bind.later;
       };
       account = account_by daemon e f f.client t.own (ap (λ (x : Engine). x.leads) g.after) (ap (λ (x : Engine). x.ticket) g.after)

@@ -1,5 +1,5 @@
 -- Where a session stands between its turns, and how it ends.
-use Rattle.std.specs.Prelude.{◌≡◌, ◌≢◌, ◌⊎◌, ℕ, ◌≤◌, Bool, true, false, List, [], ◌++◌, length, Option, Some, None, IfSome}
+use Rattle.std.specs.Prelude.{◌≡◌, ◌≢◌, ◌⊎◌, ℕ, ◌+◌, ◌≤◌, Bool, true, false, List, [], ◌++◌, length, Option, Some, None, IfSome}
 use Rattle.std.specs.Io.KnownBytes.{Appends, Consumes, IsAtEnd}
 use Rattle.sd_base.specs.Causes.{Rose}
 use Rattle.sd_base.specs.declared.io.Sink as sinks
@@ -30,7 +30,7 @@ use Rattle.sd_engine.specs.Leading.{about, leads_after, ticket_after}
 use Rattle.sd_engine.specs.Turns.{Dialling, dialling_of}
 use Rattle.sd_session.specs.Holding.{is_told}
 use Rattle.sd_session.specs.Closing.{Accounts, AreLed, AreOwn, NoneReserved}
-use Rattle.sd_session.specs.Sessions.{Company, Move, Stand, Trace, AllMay, IsListening, TracesOn, stand_after, frames_of, last_stops, CountsFalls}
+use Rattle.sd_session.specs.Sessions.{Company, Move, Stand, Trace, AllMay, IsListening, TracesOn, stand_after, frames_of, last_stops, CountsFalls, count_of}
 
 -- What is told of the outside at a moment: the bytes left, the bytes held, the session's own steps, the counts of faults of source and
 -- sink, and what the dialer tells.
@@ -162,32 +162,34 @@ EndsAs w (ends.JournalFull count) s before now = IsFullFor w count s × TookMore
 EndsAs w ends.Memory s before now = TookMore s before now
 
 -- the operations, and the bytes received, of the lookup that the request in hand needed, for which memory was wanting
-pub record LookedLast (config : Config) (s : Stand) (more : List Operation) (lines : List (List ℕ)) : Type 0 where
+pub record LookedLast (config : Config) (s : Stand) (more : List Operation) (lines : List (List ℕ)) (fell : Bool) : Type 0 where
   pub client : Client
   pub in_hand : s.client ≡ Some client
   pub server : ℕ
   pub key : Key
   pub needed : need_of client ≡ needs.Fetch server key
-  pub asked : LookupOperations config key server fetches.Memory more lines
+  pub asked : LookupOperations config key server fetches.Memory (fell ≡ true) more lines
 
 -- the same of a bind
-pub record BoundLast (s : Stand) (more : List Operation) (lines : List (List ℕ)) : Type 0 where
+pub record BoundLast (s : Stand) (more : List Operation) (lines : List (List ℕ)) (fell : Bool) : Type 0 where
   pub client : Client
   pub in_hand : s.client ≡ Some client
   pub server : ℕ
   pub dn : List ℕ
   pub password : List ℕ
   pub needed : need_of client ≡ needs.Bind server dn password
-  pub asked : BindOperations dn password server bounds.Memory more lines
+  pub asked : BindOperations dn password server bounds.Memory (fell ≡ true) more lines
 
-abbrev pub AskedLast : Config → Stand → List Operation → List (List ℕ) → Type 0
-AskedLast config s more lines = ((more ≡ []) × (lines ≡ [])) ⊎ (LookedLast config s more lines ⊎ BoundLast s more lines)
+abbrev pub AskedLast : Config → Stand → List Operation → List (List ℕ) → Bool → Type 0
+AskedLast config s more lines fell = ((more ≡ []) × (lines ≡ [])) ⊎ (LookedLast config s more lines fell ⊎ BoundLast s more lines fell)
 
--- what a lookup or a bind asked for which memory was then wanting
+-- what a lookup or a bind asked for which memory was then wanting, and whether it counted a fall of its link
 pub record AskedMore (config : Config) (s : Stand) (before now : Outside) : Type 0 where
   pub more : List Operation
   pub lines : List (List ℕ)
-  pub last : AskedLast config s more lines
+  pub fell : Bool
+  pub last : AskedLast config s more lines fell
+  pub falls : CountsFalls before.dialling.faults (s.falls + count_of fell) now.dialling.faults
   pub told : now.dialling.operations ≡ with_operations before.dialling.operations (s.operations ++ more)
   pub received : now.dialling.received ≡ with_lines before.dialling.received (s.received ++ lines)
 

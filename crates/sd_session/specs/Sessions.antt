@@ -29,23 +29,22 @@ use Rattle.sd_engine.specs.Engines.{client_of, is_stop}
 
 -- What a session does: it finds the daemon as others have moved it on; it hears the request of a frame; the event that the request in
 -- hand needs is stepped at a moment handed in, or is not; a server is asked for a key, or asked to bind, with these operations and the
--- bytes received on the line, of which there is none where the dial failed; the client is told, or so many bytes of its reply are written
+-- bytes received on the line, of which there is none where the dial failed, and a fall of the link is counted or is not; the client is told, or so many bytes of its reply are written
 -- where the sink fails; the request in hand is carried out.
 pub data Move : Type 0 where
   Finds : Daemon → Move
   Hears : Request → Move
   Steps : ℕ → Event → Move
   Refuses : ℕ → Move
-  Fetches : Fetched → List Operation → List (List ℕ) → Move
-  Binds : Bound → List Operation → List (List ℕ) → Move
+  Fetches : Fetched → List Operation → List (List ℕ) → Bool → Move
+  Binds : Bound → List Operation → List (List ℕ) → Bool → Move
   Tells : Said → Move
   Breaks : Said → ℕ → Move
   Finishes : Move
 
 -- Where a session stands: the daemon; the one that its last own step made, at first the one that it began with; the request in hand;
 -- the requests heard, the newest first; the bytes written; the own entries, the moments handed in, the operations asked and the bytes
--- received on each line, the first first; how many lookups and binds fell with their link; and whether an answer could not be written
--- whole.
+-- received on each line, the first first; how many falls of links were counted; and whether an answer could not be written whole.
 pub record Stand : Type 0 where
   pub daemon : Daemon
   pub own_end : Daemon
@@ -62,13 +61,9 @@ pub record Stand : Type 0 where
 abbrev pub begun : Daemon → Stand
 begun d = record { daemon = d; own_end = d; client = None; requests = []; written = []; own = []; moments = []; operations = []; received = []; falls = 0; broken = false }
 
-abbrev pub fetch_falls : Fetched → ℕ
-fetch_falls (fetches.Failed whys.Link) = 1
-fetch_falls _ = 0
-
-abbrev pub bind_falls : Bound → ℕ
-bind_falls (bounds.Failed whys.Link) = 1
-bind_falls _ = 0
+abbrev pub count_of : Bool → ℕ
+count_of true = 1
+count_of false = 0
 
 abbrev pub moved : List ℕ → Config → Stand → Move → Stand
 moved seed config s (Finds found) = record s { daemon = found }
@@ -81,17 +76,17 @@ moved seed config s (Steps now event) = record s {
   moments = s.moments ++ now ∷ [];
 }
 moved seed config s (Refuses now) = record s { moments = s.moments ++ now ∷ [] }
-moved seed config s (Fetches fetched operations lines) = record s {
+moved seed config s (Fetches fetched operations lines fell) = record s {
   client = option_map (λ c. client_fetched c fetched) s.client;
   operations = s.operations ++ operations;
   received = s.received ++ lines;
-  falls = s.falls + fetch_falls fetched;
+  falls = s.falls + count_of fell;
 }
-moved seed config s (Binds bound operations lines) = record s {
+moved seed config s (Binds bound operations lines fell) = record s {
   client = option_map (λ c. client_bound c bound) s.client;
   operations = s.operations ++ operations;
   received = s.received ++ lines;
-  falls = s.falls + bind_falls bound;
+  falls = s.falls + count_of fell;
 }
 moved seed config s (Tells said) = record s { client = option_map client_told s.client; written = s.written ++ reply_of config.pwfield said }
 moved seed config s (Breaks said count) = record s { client = option_map client_told s.client; written = s.written ++ take count (reply_of config.pwfield said); broken = true }
@@ -113,18 +108,19 @@ pub record NeedsStep (s : Stand) (event : Event) : Type 0 where
   pub room : is_full s.daemon event ≡ false
 
 -- The server that was picked is asked for the key of the request in hand, and the bytes received on the line decide. Where the directory
--- behind the server is told, its entries decide. A lookup for which memory was wanting is no move: it ends the session.
-pub record NeedsFetch (config : Config) (behind : ℕ → Option Behind) (s : Stand) (fetched : Fetched) (operations : List Operation) (lines : List (List ℕ)) : Type 0 where
+-- behind the server is told, its entries decide. A link that fell is counted, also where the unbind was not sent. A lookup for which memory was wanting is no move: it ends the session.
+pub record NeedsFetch (config : Config) (behind : ℕ → Option Behind) (s : Stand) (fetched : Fetched) (operations : List Operation) (lines : List (List ℕ)) (fell : Bool) : Type 0 where
   pub client : Client
   pub in_hand : s.client ≡ Some client
   pub server : ℕ
   pub key : Key
   pub needed : need_of client ≡ needs.Fetch server key
   pub memory : is_out_of_memory fetched ≡ false
-  pub asked : LookupOperations config key server fetched operations lines
+  pub asked : LookupOperations config key server fetched (fell ≡ true) operations lines
+  pub fallen : fetched ≡ fetches.Failed whys.Link → fell ≡ true
   pub told : (b : Behind) → behind server ≡ Some b → IsToldFetch fetched (first_failure b 0 1 (searches_of config b.entries key)) (looked_up config b.entries key)
 
-pub record NeedsBind (behind : ℕ → Option Behind) (s : Stand) (bound : Bound) (operations : List Operation) (lines : List (List ℕ)) : Type 0 where
+pub record NeedsBind (behind : ℕ → Option Behind) (s : Stand) (bound : Bound) (operations : List Operation) (lines : List (List ℕ)) (fell : Bool) : Type 0 where
   pub client : Client
   pub in_hand : s.client ≡ Some client
   pub server : ℕ
@@ -132,7 +128,8 @@ pub record NeedsBind (behind : ℕ → Option Behind) (s : Stand) (bound : Bound
   pub password : List ℕ
   pub needed : need_of client ≡ needs.Bind server dn password
   pub memory : is_bind_out_of_memory bound ≡ false
-  pub asked : BindOperations dn password server bound operations lines
+  pub asked : BindOperations dn password server bound (fell ≡ true) operations lines
+  pub fallen : bound ≡ bounds.Failed whys.Link → fell ≡ true
   pub told : (b : Behind) → behind server ≡ Some b → IsToldBind bound (told_bind b 0 1 dn password)
 
 -- the client is told; nothing is told after an answer that could not be written whole
@@ -178,8 +175,8 @@ May w config behind s (Finds found) = w.others s.daemon found
 May w config behind s (Hears request) = MayHear s request
 May w config behind s (Steps now event) = NeedsStep s event
 May w config behind s (Refuses now) = Unit {0}
-May w config behind s (Fetches fetched operations lines) = NeedsFetch config behind s fetched operations lines
-May w config behind s (Binds bound operations lines) = NeedsBind behind s bound operations lines
+May w config behind s (Fetches fetched operations lines fell) = NeedsFetch config behind s fetched operations lines fell
+May w config behind s (Binds bound operations lines fell) = NeedsBind behind s bound operations lines fell
 May w config behind s (Tells said) = NeedsSay s said
 May w config behind s (Breaks said count) = NeedsSay s said
 May w config behind s Finishes = NeedsNothing s
