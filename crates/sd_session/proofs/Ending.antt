@@ -29,6 +29,7 @@ use Rattle.sd_session.specs.Stepping.{IsMade, IsRefused, RefusedAs}
 use Rattle.sd_session.proofs.Accounting.{account_over, account_reached, none_reserved}
 use Rattle.sd_session.proofs.HeldLaws.{over_holds_nothing}
 use Rattle.sd_session.proofs.HoldingLaws.{untrue}
+use Rattle.sd_session.proofs.PickingLaws.{asks_behind_pick}
 use Rattle.sd_session.proofs.Standing.{falls_by, falls_none, more_operations, more_lines, reads_more, may_step_on, traces_step, listens_by, account_by, in_hand_as, step_account, led_by_step}
 
 operations_same : (known now : Option (List Operation)) (all : List Operation) → now ≡ with_operations known all → now ≡ with_operations known (all ++ [])
@@ -108,6 +109,7 @@ ran_as w seed config d before ending e f daemon o p s l later asked why unfinish
         operations = asked;
         falls = let counted = s.asked.falls in omega (arith, counted, later);
         why = why;
+        asks = asks_behind_pick;
         failed = λ b. let rose = s.written.failed b in omega (arith, rose, l.writes);
         reads = omega (arith, s.heard.reads, l.reads);
         writes = omega (arith, s.written.writes, l.writes);
@@ -186,6 +188,7 @@ ran_finished w seed config d before ending e f daemon o p c s is needed new l di
         operations = asked_as config ending t before p (subst (λ (x : Dialling). CountsFalls before.dialling.faults s0.falls x.faults) (sym dialling) s.asked.falls) (all_asked s0 t before.dialling o.dialling p.dialling refl refl dialling s.asked);
         falls = subst (λ (x : Dialling). CountsFalls before.dialling.faults s0.falls x.faults) (sym dialling) s.asked.falls;
         why = why;
+        asks = asks_behind_pick;
         failed = λ b. let rose = s.written.failed b in omega (arith, rose, l.writes);
         reads = omega (arith, s.heard.reads, l.reads);
         writes = omega (arith, s.written.writes, l.writes);
@@ -253,6 +256,7 @@ ran_refused w seed config d before ending e daemon daemon' o p c event s is need
     operations = asked_as config ending t before p (subst (λ (x : Outside). CountsFalls before.dialling.faults s0.falls x.dialling.faults) (sym same) s.asked.falls) (all_asked s0 t before.dialling o.dialling p.dialling refl refl (ap (λ (x : Outside). x.dialling) same) s.asked);
     falls = subst (λ (x : Outside). CountsFalls before.dialling.faults s0.falls x.dialling.faults) (sym same) s.asked.falls;
     why = by_end ending r.why forgot;
+    asks = asks_behind_pick;
     failed = λ b. subst (λ (x : Outside). Rose before.writes x.writes) (sym same) (s.written.failed b);
     reads = subst (λ (x : Outside). before.reads ≤ x.reads) (sym same) s.heard.reads;
     writes = subst (λ (x : Outside). before.writes ≤ x.writes) (sym same) s.written.writes;
@@ -319,6 +323,7 @@ ran_untold w seed config d before e f daemon daemon' o p c event gave s is neede
         operations = asked_as config ends.Memory t before p (subst (λ (x : Outside). CountsFalls before.dialling.faults s0.falls x.dialling.faults) (sym same) s.asked.falls) (all_asked s0 t before.dialling o.dialling p.dialling refl refl (ap (λ (x : Outside). x.dialling) same) s.asked);
         falls = subst (λ (x : Outside). CountsFalls before.dialling.faults s0.falls x.dialling.faults) (sym same) s.asked.falls;
         why = took_unread t e before o p (ap (λ (x : Outside). x.left) same) s.heard.consumed;
+        asks = asks_behind_pick;
         failed = λ b. subst (λ (x : Outside). Rose before.writes x.writes) (sym same) (s.written.failed b);
         reads = subst (λ (x : Outside). before.reads ≤ x.reads) (sym same) s.heard.reads;
         writes = subst (λ (x : Outside). before.writes ≤ x.writes) (sym same) s.written.writes;

@@ -8,6 +8,7 @@ mod GivingUp
 mod HeldLaws
 mod HoldingLaws
 mod Opening
+mod PickingLaws
 mod OverLaws
 mod Refusing
 mod ReplyKinds

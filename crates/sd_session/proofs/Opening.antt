@@ -25,7 +25,7 @@ stands_at_first : (w : Company) (seed : List ℕ) (config : Config) (d : Daemon)
 stands_at_first w seed config d o = record {
   moves = [];
   may = tt;
-  hand = record { same = refl; client = refl; in_hand = tt; going = λ none. refl };
+  hand = record { same = refl; client = refl; in_hand = tt; going = λ none. refl; picked = λ server asks. none_yet asks };
   heard = record { consumed = Consumes-nil o.left; place = refl; stops = refl; reads = omega arith };
   written = record { written = Appends-nil o.held; broken = refl; told = tt; failed = λ b. not_yet b; writes = omega arith };
   trace = (reads_none o.trace.readings, sym (append-nil o.trace.entries));

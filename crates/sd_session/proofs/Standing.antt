@@ -33,6 +33,8 @@ use Rattle.sd_engine.specs.Turns.{Dialling, HearsRequest, HearsBytes, GoesByFetc
 use Rattle.sd_session.specs.Sessions.{Company, Move, Finds, Hears, Steps, Refuses, Fetches, Binds, Tells, Breaks, Finishes, Stand, AllMay, IsListening, moved, stand_after, frames_of, last_stops, ReadsOn, Trace, TracesOn, CountsFalls, count_of}
 use Rattle.sd_session.specs.Spoken.{IsSpoken}
 use Rattle.sd_session.specs.Holding.{is_told}
+use Rattle.sd_session.specs.Picking.{server_asked, asks_at, IsPicked, IsBehindPick}
+use Rattle.sd_session.proofs.PickingLaws.{asks_behind_pick, behind_nothing, behind_step}
 use Rattle.sd_session.specs.Running.{WasTold, Outside, IsInHand, IsHeardTo, IsWrittenTo, IsAskedTo, Stands}
 use Rattle.sd_session.specs.Stepping.{IsMade, IsWaited}
 use Rattle.sd_session.specs.Closing.{Accounts}
@@ -204,6 +206,10 @@ goes_with f c is none = let clash : ⊥ = some_none c (sym is ∙ none) in absur
     some_none : (c : Client) → Some c ≡ None → ⊥
     some_none c e = cc
 
+-- the server that the request in hand asks was picked
+picked_at : (e : Engine) (c : Client) (own : List Entry) → e.client ≡ Some c → IsBehindPick e.client own → (server : ℕ) → server_asked (need_of c) ≡ Some server → IsPicked server own
+picked_at e c own is picked server asks = picked server (ap asks_at is ∙ asks)
+
 -- between two turns, without a request in hand, the session listens
 pub listens_by : (w : Company) (seed : List ℕ) (config : Config) (d : Daemon) (before : Outside) (e : Engine) (daemon : Daemon) (o : Outside) → (s : Stands w seed config d before e daemon o) → e.client ≡ None → IsListening (stand_after seed config d s.moves)
 listens_by w seed config d before e daemon o s none = record {
@@ -228,6 +234,7 @@ stands_hears w seed config d before e f daemon o p s none h reads held writes re
         client = ap (λ (x : Engine). x.client) h.after;
         in_hand = subst (λ (x : Engine). IfSome x.client (IsInHand seed daemon)) (sym h.after) (record { salted = refl; known = begun_is_spoken daemon config.settings h.request });
         going = goes_with f (client_of seed config.settings h.request) (ap (λ (x : Engine). x.client) h.after);
+        picked = behind_nothing f.client t.own (ap (λ (x : Engine). asks_at x.client) h.after ∙ asks_behind_pick.first seed config.settings h.request);
       };
       heard = heard_frame s0 e f seed config before o p s.heard h reads;
       written = written_on s0 t e f before o p refl refl s.written
@@ -251,6 +258,7 @@ stands_takes w seed config d before e f daemon o p s h reads held writes reading
         client = ap (λ (x : Engine). x.client) h.after ∙ s.hand.client;
         in_hand = subst (λ (x : Engine). IfSome x.client (IsInHand seed daemon)) (sym h.after) s.hand.in_hand;
         going = subst (λ (x : Engine). x.client ≡ None → x.stops ≡ false) (sym h.after) s.hand.going;
+        picked = subst (λ (x : Engine). IsBehindPick x.client s0.own) (sym h.after) s.hand.picked;
       };
       heard = heard_bytes s0 e f before o p s.heard h reads;
       written = written_on s0 s0 e f before o p refl refl s.written
@@ -286,6 +294,7 @@ stands_named w seed config d before e f daemon o p c about s is new quiet held w
         client = ap (λ (x : Engine). x.client) new ∙ sym is ∙ s.hand.client;
         in_hand = subst (λ (x : Engine). IfSome x.client (IsInHand seed daemon)) (sym new) (in_hand_as seed daemon e c is s.hand.in_hand);
         going = goes_with f c (ap (λ (x : Engine). x.client) new);
+        picked = subst (λ (x : Engine). IsBehindPick x.client s0.own) (sym new) (subst (λ (x : Option Client). IsBehindPick x s0.own) is s.hand.picked);
       };
       heard = heard_on s0 s0 e f before o p refl s.heard (same_heard e f o p (ap (λ (x : Engine). x.inbox) new) (ap (λ (x : Engine). x.stops) new) quiet);
       written = written_on s0 s0 e f before o p refl refl s.written
@@ -311,6 +320,7 @@ stands_fetches w seed config d before e f daemon o p c server key s is needed g 
           server = server;
           key = key;
           needed = needed;
+          picked = picked_at e c s0.own is s.hand.picked server (ap server_asked needed);
           memory = g.memory;
           asked = lookup_operations_on config key server g.fetched _ _ g.lookup.asked.operations g.lookup.asked.lines (risen o.dialling.faults p.dialling.faults) g.lookup.asked.are;
           fallen = λ fell. risen o.dialling.faults p.dialling.faults (g.lookup.fallen fell);
@@ -323,6 +333,7 @@ stands_fetches w seed config d before e f daemon o p c server key s is needed g 
         client = ap (λ (x : Engine). x.client) g.after ∙ ap (option_map (λ (x : Client). client_fetched x g.fetched)) (sym is ∙ s.hand.client);
         in_hand = subst (λ (x : Engine). IfSome x.client (IsInHand seed daemon)) (sym g.after) (record { salted = hand.salted; known = fetched_known daemon c.course g.fetched hand.known });
         going = goes_with f (client_fetched c g.fetched) (ap (λ (x : Engine). x.client) g.after);
+        picked = behind_nothing f.client t.own (ap (λ (x : Engine). asks_at x.client) g.after ∙ asks_behind_pick.fetched c g.fetched server key needed g.memory);
       };
       heard = heard_on s0 t e f before o p refl s.heard (same_heard e f o p (ap (λ (x : Engine). x.inbox) g.after) (ap (λ (x : Engine). x.stops) g.after) quiet);
       written = written_on s0 t e f before o p refl refl s.written
@@ -356,6 +367,7 @@ stands_binds w seed config d before e f daemon o p c server dn password s is nee
           dn = dn;
           password = password;
           needed = needed;
+          picked = picked_at e c s0.own is s.hand.picked server (ap server_asked needed);
           memory = g.memory;
           asked = bind_operations_on dn password server g.bound _ _ g.bind.asked.operations g.bind.asked.lines (risen o.dialling.faults p.dialling.faults) g.bind.asked.are;
           fallen = λ fell. risen o.dialling.faults p.dialling.faults (g.bind.fallen fell);
@@ -368,6 +380,7 @@ stands_binds w seed config d before e f daemon o p c server dn password s is nee
         client = ap (λ (x : Engine). x.client) g.after ∙ ap (option_map (λ (x : Client). client_bound x g.bound)) (sym is ∙ s.hand.client);
         in_hand = subst (λ (x : Engine). IfSome x.client (IsInHand seed daemon)) (sym g.after) (record { salted = hand.salted; known = bound_known c.seed daemon c.course g.bound hand.known });
         going = goes_with f (client_bound c g.bound) (ap (λ (x : Engine). x.client) g.after);
+        picked = behind_nothing f.client t.own (ap (λ (x : Engine). asks_at x.client) g.after ∙ asks_behind_pick.bound c g.bound server dn password needed g.memory);
       };
       heard = heard_on s0 t e f before o p refl s.heard (same_heard e f o p (ap (λ (x : Engine). x.inbox) g.after) (ap (λ (x : Engine). x.stops) g.after) quiet);
       written = written_on s0 t e f before o p refl refl s.written
@@ -399,6 +412,7 @@ stands_tells w seed config d before e f daemon o p c said s is needed g quiet wr
         client = ap (λ (x : Engine). x.client) g.after ∙ ap (option_map client_told) (sym is ∙ s.hand.client);
         in_hand = subst (λ (x : Engine). IfSome x.client (IsInHand seed daemon)) (sym g.after) (record { salted = hand.salted; known = told_known daemon c.course hand.known });
         going = goes_with f (client_told c) (ap (λ (x : Engine). x.client) g.after);
+        picked = behind_nothing f.client t.own (ap (λ (x : Engine). asks_at x.client) g.after ∙ asks_behind_pick.told c said needed);
       };
       heard = heard_on s0 t e f before o p refl s.heard (same_heard e f o p (ap (λ (x : Engine). x.inbox) g.after) (ap (λ (x : Engine). x.stops) g.after) quiet);
       written = record {
@@ -429,6 +443,7 @@ stands_breaks w seed config d before e f daemon o p c said s is needed g quiet w
         client = ap (λ (x : Engine). x.client) g.after ∙ ap (option_map client_told) (sym is ∙ s.hand.client);
         in_hand = subst (λ (x : Engine). IfSome x.client (IsInHand seed daemon)) (sym g.after) (record { salted = hand.salted; known = told_known daemon c.course hand.known });
         going = goes_with f (client_told c) (ap (λ (x : Engine). x.client) g.after);
+        picked = behind_nothing f.client t.own (ap (λ (x : Engine). asks_at x.client) g.after ∙ asks_behind_pick.told c said needed);
       };
       heard = heard_on s0 t e f before o p refl s.heard (same_heard e f o p (ap (λ (x : Engine). x.inbox) g.after) (ap (λ (x : Engine). x.stops) g.after) quiet);
       written = record {
@@ -457,6 +472,7 @@ stands_finishes w seed config d before e f daemon o p c s is needed going fine n
         client = ap (λ (x : Engine). x.client) new;
         in_hand = subst (λ (x : Engine). IfSome x.client (IsInHand seed daemon)) (sym new) tt;
         going = λ none. ap (λ (x : Engine). x.stops) new ∙ going;
+        picked = behind_nothing f.client t.own (ap (λ (x : Engine). asks_at x.client) new);
       };
       heard = heard_on s0 t e f before o p refl s.heard (same_heard e f o p (ap (λ (x : Engine). x.inbox) new) (ap (λ (x : Engine). x.stops) new) quiet);
       written = written_on s0 t e f before o p refl refl s.written
@@ -542,6 +558,7 @@ stands_steps w seed config d before e f daemon daemon' o p c event gave s is nee
         client = ap (λ (x : Engine). x.client) new ∙ given_by_made m.found m.now event c gave e.client s0.client m.gives s.hand.client is;
         in_hand = subst (λ (x : Engine). IfSome x.client (IsInHand seed daemon')) (sym new) (record { salted = hand.salted; known = known });
         going = goes_with f (client_replied c gave) (ap (λ (x : Engine). x.client) new);
+        picked = subst (λ (x : Engine). IsBehindPick x.client t.own) (sym new) (behind_step c event gave s0.own (entry_made m.found m.now event) needed refl (ap (λ (x : Given). x.reply) (sym m.gives)));
       };
       heard = heard_on s0 t e f before o p refl s.heard (same_outside e f o p (ap (λ (x : Engine). x.inbox) new) (ap (λ (x : Engine). x.stops) new) same);
       written = written_on s0 t e f before o p refl refl s.written
@@ -565,7 +582,7 @@ stands_waits w seed config d before e daemon daemon' o p event s r to known same
     record {
       moves = Refuses r.now ∷ Finds daemon' ∷ s.moves;
       may = (tt, (subst (λ (x : Daemon). w.others x daemon') s.hand.same r.others, s.may));
-      hand = record { same = refl; client = s.hand.client; in_hand = knows_now seed daemon daemon' e.client s.hand.in_hand known; going = s.hand.going };
+      hand = record { same = refl; client = s.hand.client; in_hand = knows_now seed daemon daemon' e.client s.hand.in_hand known; going = s.hand.going; picked = s.hand.picked };
       heard = heard_on s0 t e e before o p refl s.heard (same_outside e e o p refl refl same);
       written = written_on s0 t e e before o p refl refl s.written (unwritten e e o p refl s.written.told same);
       trace = (
@@ -586,7 +603,7 @@ stands_finds w seed config d before e daemon daemon' o p s others to known same 
     (record {
       moves = Finds daemon' ∷ s.moves;
       may = (subst (λ (x : Daemon). w.others x daemon') s.hand.same others, s.may);
-      hand = record { same = refl; client = s.hand.client; in_hand = knows_now seed daemon daemon' e.client s.hand.in_hand known; going = s.hand.going };
+      hand = record { same = refl; client = s.hand.client; in_hand = knows_now seed daemon daemon' e.client s.hand.in_hand known; going = s.hand.going; picked = s.hand.picked };
       heard = heard_on s0 t e e before o o refl s.heard (record { inbox = refl; stops = refl; left = refl; reads = refl });
       written = written_on s0 t e e before o o refl refl s.written (record { held = refl; same = refl; told = s.written.told; writes = omega arith });
       trace = s.trace;

@@ -1,6 +1,7 @@
 pub mod Spoken
 pub mod Holding
 pub mod Closing
+pub mod Picking
 pub mod Sessions
 pub mod Stepping
 pub mod Running

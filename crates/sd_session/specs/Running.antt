@@ -29,6 +29,7 @@ use Rattle.sd_engine.specs.Engines.{Engine, replied}
 use Rattle.sd_engine.specs.Leading.{about, leads_after, ticket_after}
 use Rattle.sd_engine.specs.Turns.{Dialling, dialling_of}
 use Rattle.sd_session.specs.Holding.{is_told}
+use Rattle.sd_session.specs.Picking.{AsksBehindPick, IsBehindPick}
 use Rattle.sd_session.specs.Closing.{Accounts, AreLed, AreOwn, NoneReserved}
 use Rattle.sd_session.specs.Sessions.{Company, Move, Stand, Trace, AllMay, IsListening, TracesOn, stand_after, frames_of, last_stops, CountsFalls, count_of}
 
@@ -76,12 +77,13 @@ pub record IsAskedTo (s : Stand) (before now : Dialling) : Type 0 where
   pub falls : CountsFalls before.faults s.falls now.faults
   pub later : HasNotFallen before.faults now.faults
 
--- the request in hand; without one the session was not told to stop
+-- the request in hand; without one the session was not told to stop; a server that it asks was picked
 pub record HasInHand (seed : List ℕ) (s : Stand) (engine : Engine) (daemon : Daemon) : Type 0 where
   pub same : daemon ≡ s.daemon
   pub client : engine.client ≡ s.client
   pub in_hand : IfSome engine.client (IsInHand seed daemon)
   pub going : engine.client ≡ None → engine.stops ≡ false
+  pub picked : IsBehindPick engine.client s.own
 
 -- Between two turns: the moves so far, each of which the session might make, led from the daemon d to this one and to the request in
 -- hand; and what the outside tells is by these moves.
@@ -203,7 +205,8 @@ abbrev pub Asked : Config → SessionEnd → Stand → Outside → Outside → T
 Asked config ends.Memory s before now = AskedMore config s before now
 Asked config _ s before now = AskedAll s before.dialling now.dialling
 
--- a session from the daemon d on: its moves, and why it ended there
+-- A session from the daemon d on: its moves, and why it ended there. By the scripts a server is asked only behind a Pick, and nothing is
+-- asked for a fresh hit or a Join.
 pub record Ran (w : Company) (seed : List ℕ) (config : Config) (d : Daemon) (before : Outside) (ending : SessionEnd) (daemon : Daemon) (now : Outside) : Type 0 where
   pub moves : List Move
   pub may : AllMay w seed config before.dialling.behind d moves
@@ -213,6 +216,7 @@ pub record Ran (w : Company) (seed : List ℕ) (config : Config) (d : Daemon) (b
   pub operations : Asked config ending (stand_after seed config d moves) before now
   pub falls : CountsFalls before.dialling.faults (stand_after seed config d moves).falls now.dialling.faults
   pub why : EndsAs w ending (stand_after seed config d moves) before now
+  pub asks : AsksBehindPick
   pub failed : (stand_after seed config d moves).broken ≡ true → Rose before.writes now.writes
   pub reads : before.reads ≤ now.reads
   pub writes : before.writes ≤ now.writes

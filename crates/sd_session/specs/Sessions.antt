@@ -26,6 +26,7 @@ use Rattle.sd_wire.specs.Frames.{IsCarried, frame_of}
 use Rattle.sd_engine.specs.Courses.{Client, need_of, client_told, client_replied, client_fetched, client_bound}
 use Rattle.sd_engine.specs.Answering.{reply_of}
 use Rattle.sd_engine.specs.Engines.{client_of, is_stop}
+use Rattle.sd_session.specs.Picking.{IsPicked}
 
 -- What a session does: it finds the daemon as others have moved it on; it hears the request of a frame; the event that the request in
 -- hand needs is stepped at a moment handed in, or is not; a server is asked for a key, or asked to bind, with these operations and the
@@ -107,7 +108,7 @@ pub record NeedsStep (s : Stand) (event : Event) : Type 0 where
   pub steppable : is_steppable s.daemon.past event ≡ true
   pub room : is_full s.daemon event ≡ false
 
--- The server that was picked is asked for the key of the request in hand, and the bytes received on the line decide. Where the directory
+-- The server that the last own entry picked is asked for the key of the request in hand, and the bytes received on the line decide. Where the directory
 -- behind the server is told, its entries decide. A link that fell is counted, also where the unbind was not sent. A lookup for which memory was wanting is no move: it ends the session.
 pub record NeedsFetch (config : Config) (behind : ℕ → Option Behind) (s : Stand) (fetched : Fetched) (operations : List Operation) (lines : List (List ℕ)) (fell : Bool) : Type 0 where
   pub client : Client
@@ -115,6 +116,7 @@ pub record NeedsFetch (config : Config) (behind : ℕ → Option Behind) (s : St
   pub server : ℕ
   pub key : Key
   pub needed : need_of client ≡ needs.Fetch server key
+  pub picked : IsPicked server s.own
   pub memory : is_out_of_memory fetched ≡ false
   pub asked : LookupOperations config key server fetched (fell ≡ true) operations lines
   pub fallen : fetched ≡ fetches.Failed whys.Link → fell ≡ true
@@ -127,6 +129,7 @@ pub record NeedsBind (behind : ℕ → Option Behind) (s : Stand) (bound : Bound
   pub dn : List ℕ
   pub password : List ℕ
   pub needed : need_of client ≡ needs.Bind server dn password
+  pub picked : IsPicked server s.own
   pub memory : is_bind_out_of_memory bound ≡ false
   pub asked : BindOperations dn password server bound (fell ≡ true) operations lines
   pub fallen : bound ≡ bounds.Failed whys.Link → fell ≡ true
