@@ -2,14 +2,15 @@ mod Accounting
 mod Begun
 mod Carrying
 mod ClosingLaws
+mod CollectLaws
 mod CourseLaws
 mod Ending
 mod GivingUp
 mod HeldLaws
 mod HoldingLaws
 mod Opening
-mod PickingLaws
 mod OverLaws
+mod PickingLaws
 mod Refusing
 mod ReplyKinds
 mod Sharing

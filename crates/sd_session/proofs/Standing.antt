@@ -498,7 +498,7 @@ given_by_made d now event c gave h k is hand some =
 pub may_step_on : (w : Company) (seed : List ℕ) (config : Config) (d : Daemon) (before : Outside) (e : Engine) (daemon daemon' : Daemon) (o : Outside) (later : Trace) (c : Client) (event : Event) (gave : Given) → (s : Stands w seed config d before e daemon o) → e.client ≡ Some c
     → event_of (need_of c) ≡ Some event → (m : IsMade w daemon event gave daemon' o.trace later) → is_steppable m.found.past event ≡ true → AllMay w seed config before.dialling.behind d (Steps m.now event ∷ Finds m.found ∷ s.moves)
 may_step_on w seed config d before e daemon daemon' o later c event gave s is needed m may = (
-  record { client = c; in_hand = sym s.hand.client ∙ is; needed = needed; steppable = may; room = m.room },
+  record { client = c; in_hand = sym s.hand.client ∙ is; needed = needed; steppable = may; room = m.room; ready = m.ready },
   (subst (λ (x : Daemon). w.others x m.found) s.hand.same m.others, s.may),
 )
 

@@ -29,6 +29,8 @@ use Rattle.sd_engine.specs.Engines.{Engine, awaiting, done}
 use Rattle.sd_engine.specs.Leading.{about}
 use Rattle.sd_engine.specs.Turns.{Dialling, KeepsLeads, Hears, Serves, ServesBy, IsOfKind}
 use Rattle.sd_session.specs.Running.{AskedLast, Stands, Outside, Awaits, GoesOn, EndsIn, Turned, outside_at}
+use Rattle.sd_session.specs.Desks.{MayCollect}
+use Rattle.sd_session.proofs.CollectLaws.{step_uncollects, may_collect}
 use Rattle.sd_session.proofs.HoldingLaws.{untrue}
 use Rattle.sd_session.proofs.Standing.{has_risen, risen, rose_by, Quiet, stands_hears, stands_takes, stands_named, stands_fetches, stands_binds, stands_tells, stands_breaks, stands_finishes}
 use Rattle.sd_session.proofs.Ending.{Leaves, same_lines, ran_hearing, ran_stopped, ran_write_fault, ran_starved}
@@ -295,6 +297,27 @@ turn_step w seed config event e f daemon o p known t =
     (λ none h. absurd (t.hears none))
     (λ c is h. elim h [
       | inl served ↦ step_by w seed config e f daemon o p c event (need_of c) is refl served (kind_at e (Step event) c is t.kind) (known c is) t.outer
+      | inr idle ↦ absurd (not_idle_step event idle.ended)
+    ])
+
+-- an event that a script steps itself is no Collect
+collects_by : (config : Config) (e f : Engine) (daemon : Daemon) (o p : Outside) (c : Client) (event : Event) (need : Need) → need_of c ≡ need
+    → ServesBy config.pwfield config (Step event) need (done e) c f o.held p.held (Rose o.writes p.writes) o.dialling p.dialling → IsSpoken daemon c.course → MayCollect daemon event
+collects_by config e f daemon o p c event (needs.Step other) n h known =
+    let same : event ≡ other = same_event event other h.0.0.0 in
+    may_collect daemon event (step_uncollects c.seed daemon c.course event (n ∙ ap needs.Step (sym same)) known)
+collects_by config e f daemon o p c event (needs.Await ticket) n h known = absurd (no_step event ticket h.0.0.0)
+collects_by config e f daemon o p c event (needs.Fetch server key) n h known = absurd h.0
+collects_by config e f daemon o p c event (needs.Bind server dn password) n h known = absurd h.0
+collects_by config e f daemon o p c event (needs.Say said) n h known = absurd h.0
+collects_by config e f daemon o p c event needs.End n h known = absurd h.0.0
+
+pub step_collects : (seed : List ℕ) (config : Config) (event : Event) (e f : Engine) (daemon : Daemon) (o p : Outside) → ((c : Client) → e.client ≡ Some c → IsSpoken daemon c.course) → Told seed config (Step event) e f o p → MayCollect daemon event
+step_collects seed config event e f daemon o p known t =
+    by_client e (λ x. IfSome x (λ c. Serves config (Step event) (done e) c f o.held p.held (Rose o.writes p.writes) o.dialling p.dialling)) (MayCollect daemon event) t.serves
+    (λ none h. absurd (t.hears none))
+    (λ c is h. elim h [
+      | inl served ↦ collects_by config e f daemon o p c event (need_of c) refl served (known c is)
       | inr idle ↦ absurd (not_idle_step event idle.ended)
     ])
 

@@ -100,13 +100,25 @@ stand_after seed config d (move ∷ moves) = moved seed config (stand_after seed
 
 -- ---- which moves a session may make
 
+-- The company that a session has at its daemon: what others may make of the daemon between two moves, over which daemon the session may
+-- step an event, and what besides the want of room is so where the session ends with a full journal.
+pub record Company : Type 1 where
+  pub others : Daemon → Daemon → Type 0
+  pub ready : Daemon → Event → Type 0
+  pub full : Stand → Event → ℕ → Type 0
+
+-- nobody else: the daemon stays
+abbrev pub alone : Company
+alone = record { others = λ d e. e ≡ d; ready = λ d event. Unit {0}; full = λ s event count. Unit {0} }
+
 -- the event that the request in hand needs, which the daemon has room for
-pub record NeedsStep (s : Stand) (event : Event) : Type 0 where
+pub record NeedsStep (w : Company) (s : Stand) (event : Event) : Type 0 where
   pub client : Client
   pub in_hand : s.client ≡ Some client
   pub needed : event_of (need_of client) ≡ Some event
   pub steppable : is_steppable s.daemon.past event ≡ true
   pub room : is_full s.daemon event ≡ false
+  pub ready : w.ready s.daemon event
 
 -- The server that the last own entry picked is asked for the key of the request in hand, and the bytes received on the line decide. Where the directory
 -- behind the server is told, its entries decide. A link that fell is counted, also where the unbind was not sent. A lookup for which memory was wanting is no move: it ends the session.
@@ -163,20 +175,10 @@ pub record NeedsNothing (s : Stand) : Type 0 where
   pub in_hand : s.client ≡ Some client
   pub needed : need_of client ≡ needs.End
 
--- The company that a session has at its daemon: what others may make of the daemon between two moves, and what besides the want of
--- room is so where the session ends with a full journal.
-pub record Company : Type 1 where
-  pub others : Daemon → Daemon → Type 0
-  pub full : Stand → Event → ℕ → Type 0
-
--- nobody else: the daemon stays
-abbrev pub alone : Company
-alone = record { others = λ d e. e ≡ d; full = λ s event count. Unit {0} }
-
 abbrev pub May : Company → Config → (ℕ → Option Behind) → Stand → Move → Type 0
 May w config behind s (Finds found) = w.others s.daemon found
 May w config behind s (Hears request) = MayHear s request
-May w config behind s (Steps now event) = NeedsStep s event
+May w config behind s (Steps now event) = NeedsStep w s event
 May w config behind s (Refuses now) = Unit {0}
 May w config behind s (Fetches fetched operations lines fell) = NeedsFetch config behind s fetched operations lines fell
 May w config behind s (Binds bound operations lines fell) = NeedsBind behind s bound operations lines fell

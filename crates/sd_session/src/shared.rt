@@ -38,6 +38,7 @@ fn carry_out<R: Wait, C: Clock>(
     requires own { IsOwn desk.now seat.old }
     requires free { HoldsNoTurn seat.old }
     requires awaits { running.Awaits (front desk.now seat.old) engine.old event }
+    requires collects { desks.MayCollect (front desk.now seat.old) event }
     ensures own { IsOwn desk.now seat.new }
     ensures free { HoldsNoTurn seat.new }
     ensures same { IsSameSeat seat.old seat.new }
