@@ -33,11 +33,11 @@ pub may_collect : (d : Daemon) (event : Event) → is_collect event ≡ false �
 may_collect d (events.Collect ticket) h = let clash : ⊥ = cc in absurd clash
 may_collect d _ h = tt
 
-abbrev StepsNoCollect : Option Key → Need → Event → Type 0
-StepsNoCollect key (needs.Step e) event = is_collect event ≡ false
-StepsNoCollect key _ event = Unit {0}
+abbrev StepsNoCollect : Need → Event → Type 0
+StepsNoCollect (needs.Step e) event = is_collect event ≡ false
+StepsNoCollect _ event = Unit {0}
 
-stage_uncollects : (key : Key) (stage : LookupStage) → IfEvent (lookup_need key stage) (StepsNoCollect (Some key) (lookup_need key stage))
+stage_uncollects : (key : Key) (stage : LookupStage) → IfEvent (lookup_need key stage) (StepsNoCollect (lookup_need key stage))
 stage_uncollects key stages.Ask = refl
 stage_uncollects key (stages.Wait ticket) = tt
 stage_uncollects key (stages.Pick r) = refl
@@ -47,7 +47,7 @@ stage_uncollects key (stages.Refuse r refusal) = refl
 stage_uncollects key (stages.Fall r server why) = refl
 stage_uncollects key (stages.Outage r) = refl
 
-attempt_uncollects : (words : LoginWords) (dn : List ℕ) (stage : LoginStage) → IfEvent (login_need words dn stage) (StepsNoCollect None (login_need words dn stage))
+attempt_uncollects : (words : LoginWords) (dn : List ℕ) (stage : LoginStage) → IfEvent (login_need words dn stage) (StepsNoCollect (login_need words dn stage))
 attempt_uncollects words dn login_stages.Open = refl
 attempt_uncollects words dn (login_stages.Try a named right) = refl
 attempt_uncollects words dn (login_stages.Pick a) = refl
@@ -62,15 +62,12 @@ order_uncollects : (order : Event) → is_order order ≡ true → is_collect or
 order_uncollects (events.Collect ticket) h = untrue h
 order_uncollects _ h = refl
 
-uncollecting : (d : Daemon) → AtStages (Spoken d) StepsNoCollect
+uncollecting : (d : Daemon) → AtStages (Spoken d) (λ key need event. StepsNoCollect need event)
 uncollecting d = record { at_lookup = λ key stage led named. stage_uncollects key stage; at_login = attempt_uncollects; at_access = λ words. refl }
 
 pub step_uncollects : (seed : List ℕ) (d : Daemon) (c : Course) (event : Event) → need_at (script_of seed c) ≡ needs.Step event → IsSpoken d c → is_collect event ≡ false
 step_uncollects seed d c event needed known =
-    subst (λ (n : Need). StepsNoCollect None n event) needed (by_key (course_law (uncollecting d) order_uncollects seed c event (ap event_of needed) known.asked known.order))
-  where
-    by_key : {key : Option Key} {n : Need} → StepsNoCollect key n event → StepsNoCollect None n event
-    by_key h = h
+    subst (λ (n : Need). StepsNoCollect n event) needed (course_law (uncollecting d) order_uncollects seed c event (ap event_of needed) known.asked known.order)
 
 -- ---- the ticket that is collected
 
