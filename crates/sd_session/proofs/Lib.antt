@@ -6,6 +6,7 @@ mod CollectLaws
 mod CourseLaws
 mod Ending
 mod GivingUp
+mod HeadlineLaws
 mod HeldLaws
 mod HoldingLaws
 mod Opening

@@ -144,7 +144,7 @@ reach_moves seed config behind d (Breaks said count ∷ moves) may = reach_moves
 reach_moves seed config behind d (Finishes ∷ moves) may = reach_moves seed config behind d moves may.1
 
 -- the journal that the last own step ended reaches the one where the session stands
-own_reaches : (seed : List ℕ) (config : Config) (behind : ℕ → Option Behind) (d : Daemon) (moves : List Move) → AllMay at_desk seed config behind d moves → Reaches (stand_after seed config d moves).own_end (stand_after seed config d moves).daemon
+pub own_reaches : (seed : List ℕ) (config : Config) (behind : ℕ → Option Behind) (d : Daemon) (moves : List Move) → AllMay at_desk seed config behind d moves → Reaches (stand_after seed config d moves).own_end (stand_after seed config d moves).daemon
 own_reaches seed config behind d [] may = reaches_self d
 own_reaches seed config behind d (Finds found ∷ moves) may =
     let s : Stand = stand_after seed config d moves in reaches_through s.own_end s.daemon found (own_reaches seed config behind d moves may.1) may.0

@@ -17,6 +17,7 @@ use Rattle.sd_desk.specs.Steps.{FullAfterForget, IsPending}
 use Rattle.sd_engine.specs.declared.ending.SessionEnd.{SessionEnd}
 use Rattle.sd_engine.specs.Engines.{Engine}
 use Rattle.sd_session.specs.Closing.{HasLeft}
+use Rattle.sd_session.specs.Headline as headline
 use Rattle.sd_session.specs.Running as running
 use Rattle.sd_session.specs.Sessions.{Company, Trace}
 use Rattle.sd_session.specs.Stepping as stepping
@@ -89,4 +90,10 @@ module _ {S W D Line C : Type 0} (r : sources.Ghosts S) (w : sinks.Ghosts W) (t 
   abbrev pub Session : SessionEnd → DeskSeat → S → W → D → C → DeskSeat → S → W → D → C → Type 0
   Session ending seat source sink dialer clock seat' source' sink' dialer' clock' =
       withdrawing.Session at_desk (salts_of desk) (config_of desk) (front desk seat) (outside r w t k seat source sink dialer clock) ending
+      (front desk seat') (outside r w t k seat' source' sink' dialer' clock')
+
+  -- the headline of a session at a desk
+  abbrev pub Headline : DeskSeat → S → W → D → C → DeskSeat → S → W → D → C → Type 0
+  Headline seat source sink dialer clock seat' source' sink' dialer' clock' =
+      headline.Headline at_desk (salts_of desk) (config_of desk) (front desk seat) (outside r w t k seat source sink dialer clock)
       (front desk seat') (outside r w t k seat' source' sink' dialer' clock')

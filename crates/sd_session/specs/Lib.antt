@@ -6,5 +6,6 @@ pub mod Sessions
 pub mod Stepping
 pub mod Running
 pub mod Withdrawing
+pub mod Headline
 pub mod Desks
 pub mod Solo

@@ -195,6 +195,10 @@ pub fn session<R: Wait, S: Source, W: Sink, D: Dialer, C: Clock, G: Gate>(
     ensures session { desks.Session S.Source W.Sink D.Dialer C.Clock desk.now result.1
         seat source.old sink.old dialer.old clock.old
         result.0 source.new sink.new dialer.new clock.new }
+    // Every reply that is written is the abstract daemon's reply at an own entry in the one journal, after all that was seen.
+    ensures headline { desks.Headline S.Source W.Sink D.Dialer C.Clock desk.now
+        seat source.old sink.old dialer.old clock.old
+        result.0 source.new sink.new dialer.new clock.new }
     // The journal handed back is one that the journal handed in became.
     ensures reaches { Reaches (front desk.now seat) (front desk.now result.0) }
 {
