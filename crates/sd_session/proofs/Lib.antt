@@ -12,6 +12,7 @@ mod HoldingLaws
 mod Opening
 mod OverLaws
 mod PickingLaws
+mod RefusedMoves
 mod Refusing
 mod ReplyKinds
 mod Sharing
