@@ -14,7 +14,7 @@ import time
 from frame import frame
 from trial import HOST, TEST, check
 
-# A lookup's bound at the directory, in seconds.
+# How long the slowest answer of the tests' own directory takes at most, in seconds.
 LOOKUP_BOUND = 60
 
 

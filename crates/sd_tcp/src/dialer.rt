@@ -1,5 +1,6 @@
 //! Makes connections to the servers of a configuration.
-ghost use Rattle.std.specs.Prelude.{◌≡◌, IfOk, None};
+ghost use Rattle.std.specs.Prelude.{◌≡◌, true, is_some, IfOk, None};
+ghost use Rattle.sd_tcp.specs.Wires.{is_unix};
 
 use crate::link::TcpLink;
 use crate::links::Links;
@@ -89,6 +90,24 @@ fn connect_unix<R: Net + Clock>(net: &R, path: &str) -> io::Result<UnixStream> {
     Err(io::Error::from(ErrorKind::TimedOut))
 }
 
+/// A stream to a server: where there are links, through one of them.
+fn reach<R: Net + Clock>(
+    net: &R,
+    links: Option<&Links>,
+    server: &Server,
+) -> io::Result<Wire<R::Stream>>
+    ensures { is_some links.entry ≡ true → IfOk result (λ wire. is_unix wire ≡ true) }
+{
+    if let Some(links) = links {
+        let path = links.path_of(server)?;
+        return Ok(Wire::Unix(connect_unix(net, path.as_str())?));
+    }
+    let Ok(host) = str::from_utf8(server.host.bytes()) else {
+        return Err(io::Error::from(ErrorKind::InvalidInput));
+    };
+    Ok(Wire::Tcp(connect(net, host, server.port)?))
+}
+
 impl<'r, R: Net + Clock> TcpDialer<'r, R> {
     /// A dialer of these servers, through links where there are some.
     pub fn new(net: &'r R, servers: ServerList, links: Option<Links>) -> TcpDialer<'r, R>
@@ -102,25 +121,13 @@ impl<'r, R: Net + Clock> TcpDialer<'r, R> {
         }
     }
 
-    /// A stream to a server.
-    fn reach(&self, server: &Server) -> io::Result<Wire<R::Stream>> {
-        if let Some(links) = &self.links {
-            let path = links.path_of(server)?;
-            return Ok(Wire::Unix(connect_unix(self.net, path.as_str())?));
-        }
-        let Ok(host) = str::from_utf8(server.host.bytes()) else {
-            return Err(io::Error::from(ErrorKind::InvalidInput));
-        };
-        Ok(Wire::Tcp(connect(self.net, host, server.port)?))
-    }
-
     fn open(&self, server: u32) -> io::Result<TcpLink<'r, R>>
         ensures { IfOk result (λ line. ⟦<TcpLink<'r, R> as Link>⟧.faults line ≡ 0) }
     {
         let Some(server) = self.servers.get(server as usize) else {
             return Err(io::Error::from(ErrorKind::NotFound));
         };
-        let stream = self.reach(server)?;
+        let stream = reach(self.net, self.links.as_ref(), server)?;
         TcpLink::over(self.net, stream)
     }
 }
