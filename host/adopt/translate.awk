@@ -17,7 +17,8 @@ BEGIN {
     MOST_SERVERS = 64
     # The name of a server is that of a Unix socket.
     MOST_NAME = 70
-    GREATEST = 4294967295
+    GREATEST = "4294967295"
+    NO_FLAG = "is neither TRUE nor FALSE"
     split("sssd nss pam", HEADS, " ")
     KEYS["sssd"] = "domains journal_limit"
     KEYS["nss"] = "entry_negative_timeout entry_cache_nowait_percentage filter_users filter_groups pwfield"
@@ -66,7 +67,7 @@ function joined(list, item) { return list == "" ? item : list ", " item }
 
 function has_word(word) { return index(ENVIRON["ADOPT_WORDS"], " --" word " ") > 0 }
 
-function is_number(text) { return text ~ /^[0-9]+$/ && length(text) <= 10 && text + 0 <= GREATEST }
+function is_number(text) { return text ~ /^[0-9]+$/ && length(text) <= 10 && text + 0 <= GREATEST + 0 }
 
 # ---- the table of options
 
@@ -146,6 +147,12 @@ function refuse(place, why) {
     reason("refused: " place ": " why)
 }
 
+# A value that its option cannot have.
+function refuse_value(id, key, why) {
+    refuse(place_of(id, key), "\"" value(id, key) "\" " why)
+    decide_at(id, key, "none", "it has no form")
+}
+
 # What only a word of the command line lets pass.
 function concern(word, place, why) {
     if (has_word(word)) reason("accepted: " place ": " why)
@@ -161,10 +168,11 @@ function decide_at(id, key, class, text) {
     decided_text[id, key] = text
 }
 
-function flag(key,    text) {
-    text = tolower(option(key))
-    if (text != "" && text != "true" && text != "false") refuse(here(key), "\"" option(key) "\" is neither TRUE nor FALSE")
-    return text == "true"
+function is_flag(text) { return tolower(text) == "true" || tolower(text) == "false" }
+
+function flag(key) {
+    if (option(key) != "" && !is_flag(option(key))) refuse_value(domain, key, NO_FLAG)
+    return tolower(option(key)) == "true"
 }
 
 # ---- the one domain
@@ -305,14 +313,15 @@ function translate_list(key, access) {
     decide(key, "honoured", "read by the daemon")
 }
 
-# The names of a list without this domain behind an `@`, and without those of other domains.
+# The names of a list, without this domain behind an `@`. Those of other domains stay: without them a list of those who
+# may come in could be empty, and let everyone in.
 function names_here(list,    items, count, i, at, names) {
     count = items_of(list, items)
     names = ""
     for (i = 1; i <= count; i++) {
         at = index(items[i], "@")
         if (at > 1 && tolower(substr(items[i], at + 1)) == tolower(domain_name)) items[i] = substr(items[i], 1, at - 1)
-        if (index(items[i], "@") == 0) names = joined(names, items[i])
+        names = joined(names, items[i])
     }
     return names
 }
@@ -612,8 +621,10 @@ function passed_over(key, chosen) {
 # ---- TLS
 
 function translate_tls(    check) {
-    decide("ldap_id_use_start_tls", "honoured", starts_tls ? "the gateways begin TLS" : "servers are asked as " server_key() " says")
-    decide("ldap_auth_disable_tls_never_use_in_production", "honoured", "servers are asked as " server_key() " says")
+    if (is_flag(option("ldap_id_use_start_tls")))
+        decide("ldap_id_use_start_tls", "honoured", starts_tls ? "the gateways begin TLS" : "servers are asked as " server_key() " says")
+    if (is_flag(option("ldap_auth_disable_tls_never_use_in_production")))
+        decide("ldap_auth_disable_tls_never_use_in_production", "honoured", "servers are asked as " server_key() " says")
     check = tolower(option("ldap_tls_reqcert"))
     tls_check = "demand"
     if (!is_tls_used) {
@@ -626,7 +637,7 @@ function translate_tls(    check) {
         concern("insecure", here("ldap_tls_reqcert"), check ": whoever answers is taken for the server, and gets the passwords")
     } else if (check == "" || check == "try" || check == "demand" || check == "hard")
         decide("ldap_tls_reqcert", "honoured", "each server's chain and name are checked")
-    else refuse(here("ldap_tls_reqcert"), "\"" option("ldap_tls_reqcert") "\" is none of never, allow, try, demand, hard")
+    else refuse_value(domain, "ldap_tls_reqcert", "is none of never, allow, try, demand, hard")
     ca_file = tls_file("ldap_tls_cacert", "the gateways trust ")
     ca_dir = tls_file("ldap_tls_cacertdir", "the gateways trust those in ")
     tls_cert = tls_file("ldap_tls_cert", "the gateways show ")
@@ -710,7 +721,7 @@ function bind_with_password(    type) {
 function bound(key, name,    number) {
     number = option(key)
     if (number == "") return
-    if (!is_number(number)) { refuse(here(key), "\"" number "\" is no number from 0 to " GREATEST); return }
+    if (!is_number(number)) { refuse_value(domain, key, "is no number from 0 to " GREATEST); return }
     if (number + 0 == 0) { decide(key, "none", "0 is no bound"); return }
     decide(key, "modules", "modules.conf " name)
     number += 0
@@ -722,7 +733,7 @@ function translate_numbers() {
     bound("ldap_min_id", "min_id")
     bound("max_id", "max_id")
     bound("ldap_max_id", "max_id")
-    if (!("min_id" in bounds)) unset("min_id", "SSSD gives numbers from 1 on, the modules give none below 1000")
+    if (!("min_id" in bounds) && option("min_id") + 0 == 0) unset("min_id", "SSSD gives numbers from 1 on, the modules give none below 1000")
 }
 
 # ---- the other options, and the report
@@ -734,11 +745,9 @@ function check_value(id, key, rule,    parts, text) {
     split(rule, parts, " ")
     text = value(id, key)
     if (parts[1] == "number" && !(is_number(text) && text + 0 >= parts[2] + 0 && text + 0 <= parts[3] + 0))
-        refuse(place_of(id, key), "\"" text "\" is no number from " parts[2] " to " parts[3])
-    if (parts[1] == "flag" && tolower(text) != "true" && tolower(text) != "false")
-        refuse(place_of(id, key), "\"" text "\" is neither TRUE nor FALSE")
-    if (parts[1] == "length" && length(text) > parts[3])
-        refuse(place_of(id, key), "it has more than " parts[3] " bytes")
+        refuse_value(id, key, "is no number from " parts[2] " to " parts[3])
+    if (parts[1] == "flag" && !is_flag(text)) refuse_value(id, key, NO_FLAG)
+    if (parts[1] == "length" && length(text) > parts[3]) refuse_value(id, key, "has more than " parts[3] " bytes")
 }
 
 function decide_by_table(id, key,    kind, row, class) {
@@ -758,9 +767,9 @@ function decide_by_table(id, key,    kind, row, class) {
     decided[id, key] = class
     decided_text[id, key] = text_of[row]
     if (class == "honoured" && rule_of[row] != "code") {
-        check_value(id, key, rule_of[row])
-        out[kind, key] = value(id, key)
         decided_text[id, key] = "read by the daemon"
+        out[kind, key] = value(id, key)
+        check_value(id, key, rule_of[row])
     } else if ((class == "absent" || class == "wider") && is_listed(tolower(value(id, key)), rule_of[row])) {
         decided[id, key] = "none"
         decided_text[id, key] = "this host does so anyway"
