@@ -13,6 +13,7 @@ struct person {
     bool has_groups;
 };
 
+/* A group as an entry. */
 struct circle {
     struct text dn;
     struct text name;
@@ -21,19 +22,24 @@ struct circle {
     struct texts members;
 };
 
+struct name_place {
+    struct text name;
+    size_t place;
+};
+
+/* Names and the places that they stand for, sorted by name. */
+struct index {
+    struct name_place *items;
+    size_t count, room;
+};
+
 struct directory {
     struct person *people;
     size_t people_count, people_room;
     struct circle *circles;
     size_t circle_count, circle_room;
-    /* Lists of places, by names: see `sort_names`. */
-    struct name_place *index;
-    size_t index_count, index_room;
-};
-
-struct name_place {
-    struct text name;
-    size_t place;
+    /* The people by each of their names: see `sort_names`. */
+    struct index names;
 };
 
 struct writing {
@@ -156,36 +162,54 @@ static void add_dn_line(struct writing *writing, const char *line, const char *a
 
 /* What the rows know, as entries. */
 
-static struct person *person_named(struct directory *directory, struct text name) {
-    struct name_place sought = {name, 0}, *found = NULL;
-    if (directory->index_count > 0) {
-        found = bsearch(&sought, directory->index, directory->index_count, sizeof sought, by_name);
+static void index_add(struct index *index, struct text name, size_t place) {
+    index->items = grown(index->items, index->count, &index->room, sizeof *index->items);
+    index->items[index->count++] = (struct name_place){name, place};
+}
+
+static void index_sort(struct index *index) {
+    if (index->count > 0) {
+        qsort(index->items, index->count, sizeof *index->items, by_name);
     }
+}
+
+static const struct name_place *index_find(const struct index *index, struct text name) {
+    struct name_place sought = {name, 0};
+    return index->count == 0 ? NULL : bsearch(&sought, index->items, index->count, sizeof sought, by_name);
+}
+
+static struct person *person_named(struct directory *directory, struct text name) {
+    const struct name_place *found = index_find(&directory->names, name);
     return found == NULL ? NULL : &directory->people[found->place];
 }
 
 static void sort_names(struct directory *directory) {
-    directory->index_count = 0;
+    directory->names.count = 0;
     for (size_t place = 0; place < directory->people_count; place++) {
         const struct texts *names = &directory->people[place].names;
         for (size_t at = 0; at < names->count; at++) {
-            directory->index = grown(directory->index, directory->index_count, &directory->index_room, sizeof *directory->index);
-            directory->index[directory->index_count++] = (struct name_place){names->items[at], place};
+            index_add(&directory->names, names->items[at], place);
         }
     }
-    if (directory->index_count > 0) {
-        qsort(directory->index, directory->index_count, sizeof *directory->index, by_name);
-    }
+    index_sort(&directory->names);
 }
 
-static const struct row *absence_of(const struct kept *kept, struct text name, enum key_kind key, uint64_t number) {
-    for (size_t place = kept->count; place > 0; place--) {
-        const struct row *row = &kept->rows[place - 1];
-        if (row->kind == ANSWER && !row->is_found && row->key == key && row->number > number && text_equal(row->name, name)) {
-            return row;
+/* The names that were looked up and that nobody has; a name has one such row. */
+static struct index absent_names(const struct kept *kept) {
+    struct index absent = {0};
+    for (size_t place = 0; place < kept->count; place++) {
+        const struct row *row = &kept->rows[place];
+        if (row->kind == ANSWER && row->key == KEY_USER && !row->is_found) {
+            index_add(&absent, row->name, place);
         }
     }
-    return NULL;
+    index_sort(&absent);
+    return absent;
+}
+
+static bool is_gone(const struct kept *kept, const struct index *absent, const struct row *row) {
+    const struct name_place *found = index_find(absent, row->user.name);
+    return found != NULL && kept->rows[found->place].number > row->number;
 }
 
 static int by_dn(const void *a, const void *b) {
@@ -199,6 +223,7 @@ static void add_people(struct writing *writing) {
     const struct kept *kept = writing->kept;
     struct directory *directory = &writing->directory;
     const struct row **found = calloc(kept->count + 1, sizeof *found);
+    struct index absent = absent_names(kept);
     size_t count = 0;
     if (found == NULL) {
         no_memory();
@@ -206,7 +231,7 @@ static void add_people(struct writing *writing) {
     for (size_t place = 0; place < kept->count; place++) {
         const struct row *row = &kept->rows[place];
         bool is_user = row->kind == ANSWER && row->is_found && (row->key == KEY_USER || row->key == KEY_UID);
-        if (is_user && absence_of(kept, row->user.name, KEY_USER, row->number) == NULL) {
+        if (is_user && !is_gone(kept, &absent, row)) {
             found[count++] = row;
         }
     }
@@ -226,32 +251,44 @@ static void add_people(struct writing *writing) {
         }
     }
     free(found);
+    free(absent.items);
+}
+
+static bool is_group(const struct row *row) {
+    return row->kind == ANSWER && row->is_found && (row->key == KEY_GROUP || row->key == KEY_GID);
+}
+
+static struct index member_names(const struct kept *kept) {
+    struct index members = {0};
+    for (size_t place = 0; place < kept->count; place++) {
+        const struct row *row = &kept->rows[place];
+        for (size_t at = 0; is_group(row) && at < row->group.members.count; at++) {
+            index_add(&members, row->group.members.items[at], place);
+        }
+    }
+    index_sort(&members);
+    return members;
 }
 
 /* A member that was never looked up has an entry as well, with the number that no host takes for a user. */
 static void add_members_alone(struct writing *writing) {
-    const struct kept *kept = writing->kept;
     struct directory *directory = &writing->directory;
+    struct index members = member_names(writing->kept);
     sort_names(directory);
-    for (size_t place = 0; place < kept->count; place++) {
-        const struct row *row = &kept->rows[place];
-        bool is_group = row->kind == ANSWER && row->is_found && (row->key == KEY_GROUP || row->key == KEY_GID);
-        for (size_t at = 0; is_group && at < row->group.members.count; at++) {
-            struct text name = row->group.members.items[at];
-            struct person person = {.is_member_alone = true};
-            if (person_named(directory, name) != NULL) {
-                continue;
-            }
-            person.user = (struct user){.name = name, .uid = UINT32_MAX, .gid = UINT32_MAX,
-                .gecos = text_of("known as a member of a group alone"), .home = text_of("/nonexistent")};
-            add_text(&person.names, name);
-            directory->people = grown(directory->people, directory->people_count, &directory->people_room, sizeof *directory->people);
-            directory->people[directory->people_count++] = person;
+    for (size_t place = 0; place < members.count; place++) {
+        struct text name = members.items[place].name;
+        struct person person = {.is_member_alone = true};
+        bool is_again = place > 0 && text_equal(name, members.items[place - 1].name);
+        if (is_again || person_named(directory, name) != NULL) {
+            continue;
         }
-        if (is_group) {
-            sort_names(directory);
-        }
+        person.user = (struct user){.name = name, .uid = UINT32_MAX, .gid = UINT32_MAX,
+            .gecos = text_of("known as a member of a group alone"), .home = text_of("/nonexistent")};
+        add_text(&person.names, name);
+        directory->people = grown(directory->people, directory->people_count, &directory->people_room, sizeof *directory->people);
+        directory->people[directory->people_count++] = person;
     }
+    free(members.items);
 }
 
 static struct circle *circle_named(struct directory *directory, struct text name) {
@@ -295,7 +332,7 @@ static void add_groups(struct writing *writing) {
     for (size_t place = 0; place < kept->count; place++) {
         const struct row *row = &kept->rows[place];
         struct circle *circle;
-        if (row->kind != ANSWER || (row->key != KEY_GROUP && row->key != KEY_GID) || !row->is_found) {
+        if (!is_group(row)) {
             continue;
         }
         circle = circle_named(&writing->directory, row->group.name);
@@ -469,7 +506,7 @@ static void free_directory(struct directory *directory) {
     }
     free(directory->people);
     free(directory->circles);
-    free(directory->index);
+    free(directory->names.items);
 }
 
 void scenario_write(struct buffer *out, const struct configuration *configuration, const struct kept *kept) {

@@ -199,10 +199,19 @@ static uint64_t age_of(const struct showing *showing, const struct row *row) {
 
 /* Lines for people. */
 
+/* In a list of names the comma is escaped as well. */
+static void print_listed(struct text name) {
+    struct text part;
+    for (bool is_first = true; text_next(&name, ',', &part); is_first = false) {
+        fputs(is_first ? "" : "\\2c", stdout);
+        print_field(stdout, part);
+    }
+}
+
 static void print_names(const struct texts *names) {
     for (size_t place = 0; place < names->count; place++) {
         fputs(place == 0 ? "" : ",", stdout);
-        print_field(stdout, names->items[place]);
+        print_listed(names->items[place]);
     }
 }
 
@@ -232,7 +241,7 @@ static void print_record(const struct row *row) {
         for (size_t place = 0; place < row->groups.count; place++) {
             const struct group_reference *group = &row->groups.items[place];
             fputs(place == 0 ? "" : ",", stdout);
-            print_field(stdout, group->name);
+            print_listed(group->name);
             if (group->has_gid) {
                 printf("(%u)", (unsigned)group->gid);
             }
