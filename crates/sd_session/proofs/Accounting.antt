@@ -83,7 +83,7 @@ account_as d leads ticket x y own same_leads same_attempt same_waits renewing a 
   led = a.led;
   held = held_as d x y own same_leads same_attempt same_waits a.held;
   sorted = sorted_as d x y same_leads same_attempt (renewing a.sorted.renews) a.sorted;
-  own = a.own;
+  are_own = a.are_own;
 }
 
 pub account_same : (d : Daemon) (leads : List ℕ) (ticket : Option ℕ) (c : Client) (c' : Client) (x y : Option Client) (own : List Entry) → x ≡ Some c → y ≡ Some c' → SameHeld c.course c'.course → Accounts d leads ticket x own → Accounts d leads ticket y own
@@ -150,7 +150,7 @@ account_reached d f leads ticket client own to a = record {
     requests = λ n h. no_attempt_reached n d f to (a.sorted.requests n h);
     attempts = λ n h. no_request_reached n d f to (a.sorted.attempts n h);
   };
-  own = a.own;
+  are_own = a.are_own;
 }
 
 -- ---- the list of what is led
@@ -673,7 +673,7 @@ account_steps d now event c leads ticket own may orderly needed order a =
       led = all_led d now event c s leads ticket own a.led a.held;
       held = all_held d now event c s leads ticket own a.led a.held;
       sorted = sorted_on d now event c s (renews_on c.seed c.course (given d now event) a.sorted.renews);
-      own = own_on d now event c s leads ticket own a.led a.own;
+      are_own = own_on d now event c s leads ticket own a.led a.are_own;
     }
 
 -- ---- at the end

@@ -88,12 +88,12 @@ idle_unfinished (ends.Long count) d e own led none = none
 pub idle : (ending : SessionEnd) (d : Daemon) (e : Engine) (own : List Entry) → e.client ≡ None → Accounts d e.leads e.ticket e.client own → Unfinished ending d e own
 idle ending d e own none a =
     let b : Accounts d e.leads e.ticket None own = subst (λ (x : Option Client). Accounts d e.leads e.ticket x own) none a in
-    idle_unfinished ending d e own (record { led = b.led; own = b.own }) (none_reserved d own b.held)
+    idle_unfinished ending d e own (record { led = b.led; are_own = b.are_own }) (none_reserved d own b.held)
 
 left_as : (d : Daemon) (e f : Engine) (client : Option Client) (own : List Entry) → f.leads ≡ e.leads → f.ticket ≡ e.ticket → Accounts d e.leads e.ticket client own → IsLeft d f own
 left_as d e f client own leads ticket a =
     let b : Accounts d f.leads f.ticket client own = account_by d e f client own leads ticket a in
-    record { led = b.led; own = b.own }
+    record { led = b.led; are_own = b.are_own }
 
 pub ran_as : (w : Company) (seed : List ℕ) (config : Config) (d : Daemon) (before : Outside) (ending : SessionEnd) (e f : Engine) (daemon : Daemon) (o p : Outside) → (s : Stands w seed config d before e daemon o) → Leaves o p → HasNotFallen o.dialling.faults p.dialling.faults
     → Asked config ending (stand_after seed config d s.moves) before p → EndsAs w ending (stand_after seed config d s.moves) before p → Unfinished ending daemon f (stand_after seed config d s.moves).own → RanTo w seed config d before ending f daemon p

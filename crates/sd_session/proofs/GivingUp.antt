@@ -135,8 +135,8 @@ keeps_all w false events d trace h = (refl, refl)
 -- what an engine leads at its end is the session's own
 pub gives_up_own : (w : Company) (ending : SessionEnd) (d f : Daemon) (engine : Engine) (own : List Entry) (before now : Trace) → Unfinished ending d engine own → MayTry w (is_abrupt ending) (giving_up engine.leads engine.ticket) d f before now
     → MayWithdraw w (is_abrupt ending) own d f before now
-gives_up_own w (ends.JournalFull count) d f engine own before now left t = record { leads = engine.leads; ticket = engine.ticket; are_own = left.own; withdraws = t }
-gives_up_own w ends.Memory d f engine own before now left t = record { leads = engine.leads; ticket = engine.ticket; are_own = left.own; withdraws = t }
+gives_up_own w (ends.JournalFull count) d f engine own before now left t = record { leads = engine.leads; ticket = engine.ticket; are_own = left.are_own; withdraws = t }
+gives_up_own w ends.Memory d f engine own before now left t = record { leads = engine.leads; ticket = engine.ticket; are_own = left.are_own; withdraws = t }
 gives_up_own w ends.Closed d f engine own before now left t = t
 gives_up_own w ends.Stopped d f engine own before now left t = t
 gives_up_own w ends.ReadFault d f engine own before now left t = t

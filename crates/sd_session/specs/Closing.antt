@@ -88,7 +88,7 @@ pub record Accounts (d : Daemon) (leads : List ℕ) (ticket : Option ℕ) (clien
   pub led : AreLed d leads ticket own
   pub held : AreHeld d client own
   pub sorted : IsSorted d client
-  pub own : AreOwn leads ticket own
+  pub are_own : AreOwn leads ticket own
 
 -- From one journal to a later one these requests, attempts and this ticket are given up.
 pub record GivesUp (d f : Daemon) (leads : List ℕ) (ticket : Option ℕ) : Type 0 where

@@ -224,7 +224,7 @@ pub record Ran (w : Company) (seed : List ℕ) (config : Config) (d : Daemon) (b
 -- all that own entries opened is led, where it is open, and nothing else is led
 pub record IsLeft (d : Daemon) (engine : Engine) (own : List Entry) : Type 0 where
   pub led : AreLed d engine.leads engine.ticket own
-  pub own : AreOwn engine.leads engine.ticket own
+  pub are_own : AreOwn engine.leads engine.ticket own
 
 -- What is open of what own entries opened: only a full journal and want of memory leave something, which the session leads.
 abbrev pub Unfinished : SessionEnd → Daemon → Engine → List Entry → Type 0
