@@ -1,7 +1,7 @@
 #!/usr/bin/env python3
 """hostile_directory.py SEED [PROCESSES]: an LDAP directory on a free port of the loopback device, which it prints; so many
 processes (1) answer. What it answers about a user is told by the name: a user mN is there, and the group `crowd` has 300
-of them; else by the word in front of the dash.
+of them; a user pN is there too, and each password of it is wrong; else by the word in front of the dash.
 
     mutated   some bytes or bits changed            cut       the end after some bytes
     reset     the same by a reset, or as it comes   length    an outer length that is false
@@ -69,8 +69,8 @@ def question(tag, parts):
 
 def honest(number, tag, name):
     if tag == ldap.BIND:
-        return ldap.message(number, ldap.result(ldap.BOUND, 0))
-    entry = CROWD if name == "crowd" else user(name) if re.fullmatch(r"m\d+|\w+-.*", name) else None
+        return ldap.message(number, ldap.result(ldap.BOUND, 49 if re.fullmatch(r"p\d+", name) else 0))
+    entry = CROWD if name == "crowd" else user(name) if re.fullmatch(r"[mp]\d+|\w+-.*", name) else None
     found = ldap.message(number, entry) if entry else b""
     return found + ldap.message(number, ldap.result(ldap.DONE, 0))
 

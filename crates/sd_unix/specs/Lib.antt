@@ -1,2 +1,3 @@
+pub mod Frames
+pub mod Limits
 pub mod Lobbies
-pub mod Places

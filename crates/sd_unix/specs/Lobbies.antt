@@ -1,10 +1,26 @@
--- The clients that wait in a lobby, in the order in which they came.
-use Rattle.std.specs.Prelude.{◌≡◌, ◌-◌, ℕ, true, List, [], ◌∷◌, Option, Some, None, drop, length, remove, slice_get, slice_set, IfSome}
+-- The clients that wait: in a lobby for bytes or room, in the order of their last whole frames; in a line with a whole frame.
+use Rattle.std.specs.Prelude.{◌≡◌, ◌++◌, ℕ, Bool, true, false, List, [], ◌∷◌, Option, Some, None, drop, insert, length, position, nat_le, nat_lt, remove, slice_get, if◌then◌else◌}
 use Rattle.sd_unix.specs.declared.lobby.Guest.{Guest}
+use Rattle.sd_unix.specs.declared.lobby.Stage.{Stage}
+use Rattle.sd_unix.specs.declared.lobby.Stage.TheVariants as stages
 
--- the last so many
-abbrev pub newest : {T : Type 0} → ℕ → List T → List T
-newest most items = drop (length items - most) items
+-- how long a client may be at a stage: a minute between two frames, ten seconds in a frame or a reply
+abbrev pub bound_of : Stage → ℕ
+bound_of stages.Between = 60000
+bound_of stages.Frame = 10000
+bound_of stages.Reply = 10000
+
+abbrev pub is_replying : Stage → Bool
+is_replying stages.Reply = true
+is_replying _ = false
+
+-- the first of a list that has so many items, which leaves for a new one
+abbrev pub sent_away : {T : Type 0} → ℕ → List T → Option T
+sent_away most items = if nat_le most (length items) then slice_get items 0 else None
+
+-- the list without it
+abbrev pub with_room : {T : Type 0} → ℕ → List T → List T
+with_room most items = if nat_le most (length items) then drop 1 items else items
 
 -- the item at a place, where one is named, was taken out of a list
 abbrev pub Takes : {T : Type 0} → Option ℕ → List T → Option T → List T → Type 0
@@ -16,7 +32,11 @@ abbrev pub TakesHead : {T : Type 0} → List T → Option T → List T → Type 
 TakesHead [] taken left = (taken ≡ None) × (left ≡ [])
 TakesHead (item ∷ items) taken left = (taken ≡ Some item) × (left ≡ items)
 
--- the guest at a place, where one is named, sent something
-abbrev pub Notes : {C : Type 0} → Option ℕ → List (Guest C) → List (Guest C) → Type 0
-Notes None old new = new ≡ old
-Notes (Some place) old new = IfSome (slice_get old place) (λ guest. new ≡ slice_set old place (record guest { has_sent = true }))
+-- an item was put at a place, or behind all
+abbrev pub Puts : {T : Type 0} → Option ℕ → T → List T → List T → Type 0
+Puts None item old new = new ≡ old ++ item ∷ []
+Puts (Some place) item old new = new ≡ insert old place item
+
+-- a guest was put in front of the first whose last frame came whole later
+abbrev pub PutsInOrder : {C : Type 0} → Guest C → List (Guest C) → List (Guest C) → Type 0
+PutsInOrder guest old new = Puts (position (λ other. nat_lt guest.order other.order) old) guest old new

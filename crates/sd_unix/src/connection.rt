@@ -1,244 +1,246 @@
-//! What a client sends and is sent, with bounds on every wait.
-ghost use Rattle.std.specs.Prelude.{◌≡◌, IfOk, None};
+//! What a client sends and is sent. No call waits for the client.
+ghost use Rattle.std.specs.Prelude.{◌≡◌, ◌≤◌, length, None};
 ghost use Rattle.std.specs.Io.{ReadsAtMost, WritesAtMost};
 
-use crate::callers::{Caller, Visitor, WayBack};
-use crate::entrance::second_since;
-use crate::place::FramePlace;
+use crate::caller::{Caller, Moved};
+use crate::frames::{Progress, Visitor};
+use crate::hall::{Hall, Place};
+use crate::limits::{is_turn_over, may_linger};
 use sd_base::{Sink, SinkFailed, Source, SourceFailed};
-use std::alloc::Global;
+use std::alloc::{Alloc, Global};
 use std::io;
-use std::io::{ErrorKind, Read, Write};
-use std::os::unix::net::UnixStream;
+use std::io::{ErrorKind, Read};
 use std::sync::{Arc, Mutex, Wait};
-use std::time::{Clock, Duration, Instant};
+use std::time::Clock;
 
-/// How long a client may send nothing in the middle of a frame, or take nothing of a reply, in seconds.
-const STALL_SECONDS: u64 = 10;
-/// How long a single wait for a client's bytes lasts, in milliseconds. Who sends nothing between two frames for so long goes
-/// back to the lobby, and the thread that served it is free.
-const LOOK_MILLIS: u64 = 50;
+/// The client that is served, if one is.
+#[derive(Drop)]
+pub struct Seat {
+    caller: Arc<Mutex<Option<Caller>>, Global>,
+}
 
-/// What a client sends. It ends where the client closes its end, and where the client is idle between two frames, which then
-/// waits in the lobby again. A take fails once the client stalls in the middle of a frame, once the daemon ends and the client is
-/// between two frames, and where a client that is no administrator sends an administrator's command. It tells no content.
+impl Seat {
+    /// A seat that this client has.
+    pub fn new(alloc: Global, caller: Caller) -> io::Result<Seat> {
+        Ok(Seat {
+            caller: Arc::new(alloc, Mutex::new(Some(caller)))?,
+        })
+    }
+
+    /// The same seat once more.
+    pub fn try_clone(&self) -> io::Result<Seat> {
+        Ok(Seat {
+            caller: Arc::try_clone(&self.caller)?,
+        })
+    }
+
+    /// Gives the seat to another client, or to nobody.
+    fn change<R: Wait>(&self, rt: &R, next: Option<Caller>) -> Option<Caller> {
+        std::mem::replace(&mut *self.caller.lock(rt), next)
+    }
+}
+
+/// What a look for a client's next frame came to.
+#[derive(Clone, Copy, PartialEq, Eq)]
+enum Heard {
+    /// A frame of so many bytes, which is served now.
+    Frame(usize),
+    /// The client waits elsewhere.
+    Waits,
+    /// The client is gone.
+    Gone,
+}
+
+/// Looks for more bytes: for a moment, where a thread may linger.
+fn look(hall: &Hall, caller: &mut Caller, buf: &mut [u8]) -> Moved {
+    if !may_linger(!caller.unread.is_empty(), hall.waiting(), hall.served()) {
+        return caller.read_some(buf);
+    }
+    let mut stream = &caller.stream;
+    let read = stream.read(buf);
+    caller.keep(read, buf)
+}
+
+/// Whether a client's whole frame is served now: where its turn goes on, and its login may be tried.
+fn is_served(hall: &Hall, caller: &mut Caller, frames: u32) -> bool {
+    if is_turn_over(frames, hall.waiting()) {
+        return false;
+    }
+    if caller.needs_guess() {
+        caller.guess = hall.take_guess();
+    }
+    !caller.needs_guess()
+}
+
+fn hear_frame(hall: &Hall, caller: &mut Caller, frames: u32) -> io::Result<Heard> {
+    match caller.progress() {
+        Progress::Cut => Ok(Heard::Waits),
+        Progress::Refused => Err(io::Error::from(ErrorKind::PermissionDenied)),
+        Progress::Whole(size) => {
+            if is_served(hall, caller, frames) {
+                Ok(Heard::Frame(size))
+            } else {
+                Ok(Heard::Waits)
+            }
+        }
+    }
+}
+
+/// Looks for a whole frame, of a client of whom so many were served in turn. While a reply is not taken whole, none is looked for.
+fn hear(hall: &Hall, caller: &mut Caller, frames: u32, buf: &mut [u8]) -> io::Result<Heard> {
+    if !caller.reply.is_empty() {
+        return Ok(Heard::Waits);
+    }
+    if caller.progress() == Progress::Cut {
+        match look(hall, caller, buf) {
+            Moved::Some => {}
+            Moved::Nothing => return Ok(Heard::Waits),
+            Moved::Closed => {
+                caller.is_closed = true;
+                return Ok(Heard::Gone);
+            }
+        }
+    }
+    hear_frame(hall, caller, frames)
+}
+
+/// What clients send, one after the other: the frames of each while they come at once, and up to a bound while others wait. It ends
+/// where no client is there to serve. A take fails once the daemon ends and no frame has begun, and where a client sends what is no
+/// frame, or an administrator's command and is none. It tells no content.
 #[derive(Drop)]
 pub struct ClientSource<'r, R> {
     rt: &'r R,
-    /// None once it went back to the lobby.
-    caller: Option<Caller>,
-    way_out: WayOut,
-    way_back: Arc<WayBack, Global>,
-    opened: Instant,
-    place: FramePlace,
+    seat: Seat,
+    place: Place,
+    /// So many bytes of the frame that is served are to come.
+    left: usize,
+    /// So many frames of the client were served in turn.
+    frames: u32,
     faults: u64,
 }
 
-/// Where replies go: to the client that is served, if one is.
-#[derive(Drop)]
-pub struct WayOut {
-    stream: Arc<Mutex<Option<UnixStream>>, Global>,
-}
-
-impl WayOut {
-    /// A way to this client.
-    pub fn new(alloc: Global, stream: UnixStream) -> io::Result<WayOut> {
-        stream.set_write_timeout(Some(Duration::from_secs(STALL_SECONDS)))?;
-        Ok(WayOut {
-            stream: Arc::new(alloc, Mutex::new(Some(stream)))?,
-        })
-    }
-
-    /// The same way once more.
-    pub fn try_clone(&self) -> io::Result<WayOut> {
-        Ok(WayOut {
-            stream: Arc::try_clone(&self.stream)?,
-        })
-    }
-
-    /// From now on replies go to nobody.
-    fn close<R: Wait>(&self, rt: &R) {
-        *self.stream.lock(rt) = None;
-    }
-
-    /// From now on replies go to this client.
-    fn open<R: Wait>(&self, rt: &R, stream: UnixStream) -> io::Result<()> {
-        stream.set_write_timeout(Some(Duration::from_secs(STALL_SECONDS)))?;
-        *self.stream.lock(rt) = Some(stream);
-        Ok(())
-    }
-
-    /// Writes some of these bytes.
-    fn write<R: Wait>(&self, rt: &R, bytes: &[u8]) -> io::Result<usize>
-        ensures { WritesAtMost result bytes.now }
+impl<'r, R: Wait + Clock + Alloc<A = Global>> ClientSource<'r, R> {
+    /// What is read of the client in a seat.
+    pub(crate) fn new(rt: &'r R, seat: Seat, place: Place) -> ClientSource<'r, R>
+        ensures { ⟦<ClientSource<'r, R> as Source>⟧.faults result ≡ 0 }
     {
-        match &mut *self.stream.lock(rt) {
-            Some(stream) => stream.write(bytes),
-            None => Err(io::Error::from(ErrorKind::NotConnected)),
-        }
-    }
-}
-
-/// How many looks a wait for a client's bytes lasts.
-fn looks_at(place: FramePlace) -> u64 {
-    match place {
-        FramePlace::Between => 1,
-        _ => STALL_SECONDS * 1000 / LOOK_MILLIS,
-    }
-}
-
-/// Waits for bytes; between two frames no longer than the daemon goes on. Where none come in time the error is of the kind
-/// WouldBlock.
-fn read_in_time(
-    stream: &mut UnixStream,
-    way_back: &WayBack,
-    place: FramePlace,
-    buf: &mut [u8],
-) -> io::Result<usize>
-    ensures { ReadsAtMost result buf.new }
-{
-    if place == FramePlace::Between && way_back.is_ending() {
-        return Err(io::Error::from(ErrorKind::ConnectionAborted));
-    }
-    for _ in 0..looks_at(place) {
-        match stream.read(buf) {
-            Err(error) if error.kind() == ErrorKind::WouldBlock => {}
-            read => return read,
-        }
-    }
-    Err(io::Error::from(ErrorKind::WouldBlock))
-}
-
-impl<'r, R: Wait + Clock> ClientSource<'r, R> {
-    /// What is read of a client.
-    pub(crate) fn new(
-        rt: &'r R,
-        caller: Caller,
-        way_out: WayOut,
-        way_back: Arc<WayBack, Global>,
-        opened: Instant,
-    ) -> io::Result<ClientSource<'r, R>>
-        ensures { IfOk result (λ source. ⟦<ClientSource<'r, R> as Source>⟧.faults source ≡ 0) }
-    {
-        caller
-            .stream
-            .set_read_timeout(Some(Duration::from_millis(LOOK_MILLIS)))?;
-        Ok(ClientSource {
+        ClientSource {
             rt,
-            caller: Some(caller),
-            way_out,
-            way_back,
-            opened,
-            place: FramePlace::Between,
+            seat,
+            place,
+            left: 0,
+            frames: 0,
             faults: 0,
-        })
-    }
-
-    /// Sends the client back to the lobby.
-    fn go_back(&mut self)
-        ensures { ⟦<ClientSource<'r, R> as Source>⟧.faults self.new ≡ ⟦<ClientSource<'r, R> as Source>⟧.faults self.old }
-    {
-        if let Some(caller) = self.caller.take() {
-            self.way_back.give(self.rt, caller);
         }
     }
 
-    /// Waits for bytes; tells whether they may be sent.
-    fn read(&mut self, buf: &mut [u8]) -> io::Result<usize>
-        ensures bound { ReadsAtMost result buf.new }
-        ensures faults { ⟦<ClientSource<'r, R> as Source>⟧.faults self.new ≡ ⟦<ClientSource<'r, R> as Source>⟧.faults self.old }
-    {
-        let Some(caller) = &mut self.caller else {
-            return Ok(0);
-        };
-        let count = read_in_time(&mut caller.stream, &self.way_back, self.place, buf)?;
-        let bytes = &buf[..count];
-        if caller.visitor == Visitor::Anyone && self.place.has_reserved(bytes) {
-            return Err(io::Error::from(ErrorKind::PermissionDenied));
-        }
-        self.place = self.place.after(bytes);
-        Ok(count)
-    }
-
-    /// Waits for bytes. Who is idle between two frames goes back to the lobby.
-    fn read_or_go_back(&mut self, buf: &mut [u8]) -> io::Result<usize>
-        ensures bound { ReadsAtMost result buf.new }
-        ensures faults { ⟦<ClientSource<'r, R> as Source>⟧.faults self.new ≡ ⟦<ClientSource<'r, R> as Source>⟧.faults self.old }
-    {
-        match self.read(buf) {
-            Err(error)
-                if error.kind() == ErrorKind::WouldBlock && self.place == FramePlace::Between => {
-                self.go_back();
-                Ok(0)
-            }
-            read => read,
+    /// Looks for the next frame of the client in the seat.
+    fn hear_seated(&self, buf: &mut [u8]) -> io::Result<Heard> {
+        match &mut *self.seat.caller.lock(self.rt) {
+            Some(caller) => hear(&self.place.hall, caller, self.frames, buf),
+            None => Ok(Heard::Gone),
         }
     }
-}
 
-impl<'r, R: Wait + Clock> ClientSource<'r, R> {
-    /// Takes a client that came through the public door.
-    fn receive(&mut self, caller: Caller) -> io::Result<()>
-        ensures { ⟦<ClientSource<'r, R> as Source>⟧.faults self.new ≡ ⟦<ClientSource<'r, R> as Source>⟧.faults self.old }
-    {
-        caller
-            .stream
-            .set_read_timeout(Some(Duration::from_millis(LOOK_MILLIS)))?;
-        self.way_out.open(self.rt, caller.stream.try_clone()?)?;
-        self.caller = Some(caller);
-        Ok(())
-    }
-
-    /// The next client at the public door, where this session is to serve it; none where another session waits there, the entrance is
-    /// busy, or the daemon ends.
+    /// The next client: one that waits with a whole frame, or who comes through the public door now. None where the entrance is to
+    /// give the next one.
     fn next_caller(&self) -> Option<Caller> {
+        let hall = &self.place.hall;
+        if hall.is_ending() || !hall.is_past(self.place.accept) {
+            return None;
+        }
+        if hall.waiting() > 0 && hall.is_due(self.rt) {
+            return None;
+        }
+        match hall.next_in_line(self.rt, self.place.visitor) {
+            Some(caller) => Some(caller),
+            None => self.attend(),
+        }
+    }
+
+    /// Waits for the next client at the public door, in the place of the entrance.
+    fn attend(&self) -> Option<Caller> {
+        if self.place.visitor == Visitor::Administrator {
+            return None;
+        }
+        let hall = &self.place.hall;
         for _ in 0..u64::MAX {
-            let caller = Caller {
-                stream: self.way_back.door.attend()?,
-                visitor: Visitor::Anyone,
-                number: self.way_back.door.number(),
-            };
-            let now = second_since(self.rt, &self.opened);
-            if !self.way_back.door.is_due(now) {
+            let stream = hall.door.attend()?;
+            let caller = hall.new_caller(self.rt.alloc(), stream, Visitor::Anyone);
+            if !hall.is_due(self.rt) {
                 return Some(caller);
             }
-            self.way_back.give(self.rt, caller);
+            hall.give_back(self.rt, caller);
         }
         None
     }
 
-    /// Lets the client go, and waits for the next at the public door in the place of the entrance. Tells whether one came.
-    fn attend(&mut self) -> bool
+    /// Lets the client go where it belongs, and seats the next. Tells whether one came.
+    fn change_client(&mut self) -> bool
         ensures { ⟦<ClientSource<'r, R> as Source>⟧.faults self.new ≡ ⟦<ClientSource<'r, R> as Source>⟧.faults self.old }
     {
-        self.caller = None;
-        self.way_out.close(self.rt);
-        match self.next_caller() {
-            Some(caller) => self.receive(caller).is_ok(),
-            None => false,
+        if let Some(caller) = self.seat.change(self.rt, None) {
+            self.place.hall.part(self.rt, caller);
         }
+        self.frames = 0;
+        let next = self.next_caller();
+        let has_come = next.is_some();
+        drop(self.seat.change(self.rt, next));
+        has_come
     }
 
-    /// Waits for bytes; where the client has ended between two frames, or went back, for those of the next client.
-    fn read_on(&mut self, buf: &mut [u8]) -> io::Result<usize>
+    /// Gives bytes of the frame that is served.
+    fn give(&mut self, buf: &mut [u8]) -> usize
+        ensures count { result ≤ length buf.new }
+        ensures faults { ⟦<ClientSource<'r, R> as Source>⟧.faults self.new ≡ ⟦<ClientSource<'r, R> as Source>⟧.faults self.old }
+    {
+        let count = match &mut *self.seat.caller.lock(self.rt) {
+            Some(caller) => caller.unread.give(buf, self.left),
+            None => 0,
+        };
+        self.left = self.left.saturating_sub(count);
+        count
+    }
+
+    /// Looks for the next frame of a client, and then of the next one, until one is there; 0 where none comes.
+    fn next_frame(&mut self, buf: &mut [u8]) -> io::Result<usize>
         ensures bound { ReadsAtMost result buf.new }
         ensures faults { ⟦<ClientSource<'r, R> as Source>⟧.faults self.new ≡ ⟦<ClientSource<'r, R> as Source>⟧.faults self.old }
     {
-        let count = self.read_or_go_back(buf)?;
-        if count > 0 || self.place != FramePlace::Between || !self.attend() {
-            return Ok(count);
+        for _ in 0..u64::MAX {
+            if self.place.hall.is_ending() {
+                return Err(io::Error::from(ErrorKind::ConnectionAborted));
+            }
+            if let Heard::Frame(size) = self.hear_seated(buf)? {
+                self.left = size;
+                self.frames = self.frames.saturating_add(1);
+                return Ok(self.give(buf));
+            }
+            if !self.change_client() {
+                return Ok(0);
+            }
         }
-        self.read_or_go_back(buf)
+        Ok(0)
+    }
+
+    fn read(&mut self, buf: &mut [u8]) -> io::Result<usize>
+        ensures bound { ReadsAtMost result buf.new }
+        ensures faults { ⟦<ClientSource<'r, R> as Source>⟧.faults self.new ≡ ⟦<ClientSource<'r, R> as Source>⟧.faults self.old }
+    {
+        if self.left > 0 {
+            return Ok(self.give(buf));
+        }
+        self.next_frame(buf)
     }
 }
 
-impl<'r, R: Wait + Clock> Source for ClientSource<'r, R> {
+impl<'r, R: Wait + Clock + Alloc<A = Global>> Source for ClientSource<'r, R> {
     ghost left = { λ _. None };
 
     ghost faults = { λ s. s.faults };
 
     fn take(&mut self, buf: &mut [u8]) -> Result<usize, SourceFailed> {
-        match self.read_on(buf) {
+        match self.read(buf) {
             Ok(count) => Ok(count),
             Err(_) => {
                 self.faults = self.faults.saturating_add(1);
@@ -248,22 +250,32 @@ impl<'r, R: Wait + Clock> Source for ClientSource<'r, R> {
     }
 }
 
-/// What a client is sent. A put fails once the client takes nothing for too long. It tells no content.
+/// What a client is sent: what its socket has room for at once, and the rest once it has. A put fails where the client is gone. It
+/// tells no content.
 #[derive(Drop)]
 pub struct ClientSink<'r, R> {
     rt: &'r R,
-    way_out: WayOut,
+    seat: Seat,
     faults: u64,
 }
 
 impl<'r, R: Wait> ClientSink<'r, R> {
-    pub(crate) fn new(rt: &'r R, way_out: WayOut) -> ClientSink<'r, R>
+    pub(crate) fn new(rt: &'r R, seat: Seat) -> ClientSink<'r, R>
         ensures { ⟦<ClientSink<'r, R> as Sink>⟧.faults result ≡ 0 }
     {
         ClientSink {
             rt,
-            way_out,
+            seat,
             faults: 0,
+        }
+    }
+
+    fn write(&self, bytes: &[u8]) -> io::Result<usize>
+        ensures { WritesAtMost result bytes.now }
+    {
+        match &mut *self.seat.caller.lock(self.rt) {
+            Some(caller) => caller.answer(bytes),
+            None => Err(io::Error::from(ErrorKind::NotConnected)),
         }
     }
 }
@@ -274,7 +286,7 @@ impl<'r, R: Wait> Sink for ClientSink<'r, R> {
     ghost faults = { λ s. s.faults };
 
     fn put(&mut self, bytes: &[u8]) -> Result<usize, SinkFailed> {
-        match self.way_out.write(self.rt, bytes) {
+        match self.write(bytes) {
             Ok(count) => {
                 if count == 0 && !bytes.is_empty() {
                     self.faults = self.faults.saturating_add(1);

@@ -7,13 +7,14 @@ use sd_doors::{DoorFailed, Doors};
 use std::alloc::{Alloc, Global};
 use std::fs::Files;
 use std::io;
+use std::io::Eprint;
 use std::net::Net;
 use std::sync::Wait;
 use std::time::Clock;
 
 /// Two doors on Unix sockets: the administrator's at a path, with mode 0600, and beside it at `PATH.public`,
-/// with mode 0666, one for every user of the host. A client is given once it has sent something, or closed its end:
-/// those that are silent keep nobody busy. At most 256 of them are kept, each for a minute.
+/// with mode 0666, one for every user of the host. A client is given once a frame of it is whole and a place is free. At most 704
+/// clients wait; of more than these the one that has gone longest without a whole frame is sent away.
 #[derive(Drop)]
 pub struct UnixDoors<'r, R: Files + Net + Clock> {
     entrance: Entrance<'r, R>,
@@ -21,7 +22,7 @@ pub struct UnixDoors<'r, R: Files + Net + Clock> {
     faults: u64,
 }
 
-impl<'r, R: Files + Net + Clock + Wait + Alloc<A = Global>> UnixDoors<'r, R> {
+impl<'r, R: Files + Net + Clock + Wait + Eprint + Alloc<A = Global>> UnixDoors<'r, R> {
     /// Opens both doors.
     pub fn open(rt: &'r R, path: &str) -> io::Result<UnixDoors<'r, R>>
         ensures gave { IfOk result (λ doors. ⟦<UnixDoors<'r, R> as Doors>⟧.gave doors ≡ false) }
@@ -55,7 +56,7 @@ impl<'r, R: Files + Net + Clock + Wait + Alloc<A = Global>> UnixDoors<'r, R> {
 }
 
 /// No connection is ever told to be the last: clients may always come.
-impl<'r, R: Files + Net + Clock + Wait + Alloc<A = Global>> Doors for UnixDoors<'r, R> {
+impl<'r, R: Files + Net + Clock + Wait + Eprint + Alloc<A = Global>> Doors for UnixDoors<'r, R> {
     type In = ClientSource<'r, R>;
 
     type Out = ClientSink<'r, R>;
@@ -66,7 +67,7 @@ impl<'r, R: Files + Net + Clock + Wait + Alloc<A = Global>> Doors for UnixDoors<
 
     ghost faults = { λ d. d.faults };
 
-    /// Where the system has no descriptor left for a client, it is tried again after a pause.
+    /// Where the system has no descriptor left for a client, one that waits is sent away.
     fn accept(&mut self) -> Result<Option<(ClientSource<'r, R>, ClientSink<'r, R>)>, DoorFailed> {
         match self.entrance.next_client() {
             Ok(client) => {
@@ -80,7 +81,7 @@ impl<'r, R: Files + Net + Clock + Wait + Alloc<A = Global>> Doors for UnixDoors<
         }
     }
 
-    /// Connections that were given end within a second once their clients are between two frames.
+    /// Connections that were given end as soon as no frame of their clients is served.
     fn wind_down(&mut self) {
         self.entrance.wind_down();
     }

@@ -1,40 +1,48 @@
-//! The way in: two listening sockets, and the lobby behind them.
+//! The way in: two listening sockets, and those who wait behind them.
 ghost use Rattle.std.specs.Prelude.{◌≡◌, IfOk, IfSome};
 
-use crate::callers::{Caller, Visitor, WayBack};
-use crate::connection::{ClientSink, ClientSource, WayOut};
-use crate::lobby::{Guest, Lobby, MOST_GUESTS};
+use crate::caller::Caller;
+use crate::connection::{ClientSink, ClientSource, Seat};
+use crate::floor::{Departures, Floor};
+use crate::frames::Visitor;
+use crate::hall::{Hall, Place};
 use crate::public_door::PublicDoor;
 use crate::socket::{ListeningSocket, longer_path};
 use mio::unix::SourceFd;
 use mio::{Events, Interest, Poll, Token};
-use sd_base::{Memory, Sink, Source};
+use sd_base::{Sink, Source};
 use std::alloc::{Alloc, Global};
 use std::fs::Files;
-use std::io::ErrorKind;
+use std::io::{Eprint, ErrorKind};
 use std::net::Net;
 use std::os::fd::AsRawFd;
 use std::os::unix::net::{UnixListener, UnixStream};
 use std::sync::{Arc, Wait};
-use std::time::{Clock, Duration, Instant};
+use std::time::{Clock, Duration};
 use std::{io, thread};
 
 /// The mode of the administrator's socket.
 const OWN_MODE: u32 = 0o600;
 /// The mode of the socket for every user of the host.
 const PUBLIC_MODE: u32 = 0o666;
-/// How long to wait before the next try where a connection could not be accepted, in milliseconds.
-const PAUSE: u64 = 100;
-/// How many events are taken at once.
+/// How long to wait before the next try where a connection could not be accepted and nobody can be sent away, in milliseconds.
+const PAUSE: u64 = 10;
+/// How many events are taken at once, and how many clients are accepted at once at each door.
 const MOST_EVENTS: usize = 64;
+/// How often clients that wait for too long are looked for, in milliseconds.
+const LOOK_MILLIS: u64 = 1000;
+/// How soon it is tried again to have a login tried, in milliseconds.
+const LOGIN_MILLIS: u64 = 50;
+/// How often the log may tell of clients that were sent away, in milliseconds.
+const LOG_MILLIS: u64 = 60000;
 
 const ADMINISTRATOR: usize = 0;
 
 const ANYONE: usize = 1;
 
 const COMING_BACK: usize = 2;
-/// The number of the first guest.
-const FIRST_GUEST: usize = 3;
+/// The number of the first client.
+const FIRST_CALLER: usize = 3;
 
 /// What a try to accept came to.
 enum Accepted {
@@ -60,20 +68,15 @@ impl Drop for Sockets {
     }
 }
 
-/// The clients that are connected and have sent nothing yet, and what is waited for them by.
-struct Hall {
+/// What is waited by.
+struct Lookout {
     poll: Poll,
     events: Events<Global>,
-    lobby: Lobby<Caller>,
 }
 
-impl Drop for Hall {
+impl Drop for Lookout {
     fn drop(self) {
-        let Hall {
-            poll: _,
-            events: _,
-            lobby: _,
-        } = self;
+        let Lookout { poll: _, events: _ } = self;
     }
 }
 
@@ -82,11 +85,13 @@ impl Drop for Hall {
 pub struct Entrance<'r, R: Files + Net + Clock> {
     rt: &'r R,
     sockets: Sockets,
-    hall: Hall,
+    lookout: Lookout,
+    floor: Floor,
     is_administrator_waiting: bool,
     is_anyone_waiting: bool,
-    opened: Instant,
-    way_back: Arc<WayBack, Global>,
+    /// When clients that wait for too long were last looked for, and when the log last told of some.
+    looked: u64,
+    logged: u64,
 }
 
 fn accept_at(listener: &UnixListener) -> Accepted {
@@ -97,58 +102,17 @@ fn accept_at(listener: &UnixListener) -> Accepted {
     }
 }
 
-fn out_of_memory(_error: Memory) -> io::Error {
-    io::Error::from(ErrorKind::OutOfMemory)
-}
-
-/// What a caller sends and is sent; `out` is the caller's stream too.
-fn connection<'r, R: Wait + Clock>(
+/// What a client sends and is sent.
+fn connection<'r, R: Wait + Clock + Alloc<A = Global>>(
     rt: &'r R,
-    alloc: Global,
     caller: Caller,
-    out: UnixStream,
-    way_back: Arc<WayBack, Global>,
-    opened: Instant,
+    place: Place,
 ) -> io::Result<(ClientSource<'r, R>, ClientSink<'r, R>)>
     ensures { IfOk result (λ made. (⟦<ClientSource<'r, R> as Source>⟧.faults made.0 ≡ 0) × (⟦<ClientSink<'r, R> as Sink>⟧.faults made.1 ≡ 0)) }
 {
-    let way_out = WayOut::new(alloc, out)?;
-    let source = ClientSource::new(rt, caller, way_out.try_clone()?, way_back, opened)?;
-    Ok((source, ClientSink::new(rt, way_out)))
-}
-
-fn watch(poll: &Poll, descriptor: i32, number: usize) -> io::Result<()> {
-    poll.registry().register(
-        &mut SourceFd(&descriptor),
-        Token(number),
-        Interest::READABLE,
-    )
-}
-
-fn forget(poll: &Poll, descriptor: i32) -> io::Result<()> {
-    poll.registry().deregister(&mut SourceFd(&descriptor))
-}
-
-/// The second, counted from a moment.
-pub fn second_since(clock: &impl Clock, moment: &Instant) -> u64 {
-    match moment.elapsed(clock) {
-        Ok(passed) => passed.as_secs(),
-        Err(_) => 0,
-    }
-}
-
-impl Hall {
-    /// An empty hall.
-    fn new(net: &impl Net, alloc: Global) -> io::Result<Hall> {
-        let lobby = Lobby::new(alloc).map_err(out_of_memory)?;
-        let events = Events::with_capacity(alloc, MOST_EVENTS)?;
-        let poll = Poll::new(net)?;
-        Ok(Hall {
-            poll,
-            events,
-            lobby,
-        })
-    }
+    let seat = Seat::new(rt.alloc(), caller)?;
+    let sink = ClientSink::new(rt, seat.try_clone()?);
+    Ok((ClientSource::new(rt, seat, place), sink))
 }
 
 /// Listens at `PATH` with this behind it.
@@ -189,196 +153,194 @@ fn public_door(
 ) -> io::Result<PublicDoor> {
     let listener = public.listener.try_clone()?;
     let registry = poll.registry().try_clone()?;
-    PublicDoor::new(net, alloc, listener, registry, Token(ANYONE), FIRST_GUEST)
+    PublicDoor::new(net, alloc, listener, registry, Token(ANYONE), FIRST_CALLER)
 }
 
 /// Has a wait at this poll end where somebody comes to a socket, or comes back.
-fn attach<R: Net + Alloc<A = Global>>(
+fn attach<R: Net + Clock + Alloc<A = Global>>(
     rt: &R,
     poll: &Poll,
     sockets: &Sockets,
-) -> io::Result<Arc<WayBack, Global>> {
-    watch(
-        poll,
-        sockets.administrator.listener.as_raw_fd(),
-        ADMINISTRATOR,
+) -> io::Result<Arc<Hall, Global>> {
+    let descriptor = sockets.administrator.listener.as_raw_fd();
+    poll.registry().register(
+        &mut SourceFd(&descriptor),
+        Token(ADMINISTRATOR),
+        Interest::READABLE,
     )?;
     let door = public_door(rt, rt.alloc(), &sockets.public, poll)?;
-    let way_back = WayBack::new(rt.alloc(), poll.registry(), Token(COMING_BACK), door)?;
-    Ok(Arc::new(rt.alloc(), way_back)?)
+    let hall = Hall::new(rt, rt.alloc(), poll.registry(), Token(COMING_BACK), door)?;
+    Ok(Arc::new(rt.alloc(), hall)?)
 }
 
-impl<'r, R: Files + Net + Clock + Wait + Alloc<A = Global>> Entrance<'r, R> {
-    /// Listens at a path, for the administrator, and at `PATH.public`; the lobby is empty.
+impl<'r, R: Files + Net + Clock + Wait + Eprint + Alloc<A = Global>> Entrance<'r, R> {
+    /// Listens at a path, for the administrator, and at `PATH.public`; nobody waits.
     pub fn open(rt: &'r R, path: &str) -> io::Result<Entrance<'r, R>> {
-        let opened = Instant::now(rt)?;
-        let hall = Hall::new(rt, rt.alloc())?;
+        let events = Events::with_capacity(rt.alloc(), MOST_EVENTS)?;
+        let poll = Poll::new(rt)?;
         let sockets = Sockets::open(rt, path)?;
-        let way_back = attach(rt, &hall.poll, &sockets)?;
+        let hall = attach(rt, &poll, &sockets)?;
+        let floor = Floor::new(rt.alloc(), hall, poll.registry().try_clone()?)?;
         Ok(Entrance {
             rt,
             sockets,
-            hall,
+            lookout: Lookout { poll, events },
+            floor,
             is_administrator_waiting: true,
             is_anyone_waiting: true,
-            opened,
-            way_back,
+            looked: 0,
+            logged: 0,
         })
     }
 
-    /// Lets somebody into the lobby. Who cannot be watched there is sent away.
-    fn let_in(&mut self, caller: Caller) {
-        let number = caller.number;
-        if watch(&self.hall.poll, caller.stream.as_raw_fd(), number).is_err() {
+    /// Makes room where the system lacks a descriptor.
+    fn make_room(&mut self) {
+        if !self.floor.make_room() {
+            thread::sleep(self.rt, Duration::from_millis(PAUSE));
+        }
+    }
+
+    /// Lets an administrator in, if one waits.
+    fn answer_administrator(&mut self) {
+        if !self.is_administrator_waiting {
             return;
         }
-        self.hall.lobby.admit(Guest {
-            connection: caller,
-            number,
-            came: second_since(self.rt, &self.opened),
-            has_sent: false,
-        });
-    }
-
-    /// Lets somebody in who was not here before.
-    fn welcome(&mut self, stream: UnixStream, visitor: Visitor) {
-        let number = self.way_back.door.number();
-        self.let_in(Caller {
-            stream,
-            visitor,
-            number,
-        });
-    }
-
-    /// Lets in who was served, and is idle.
-    fn let_back(&mut self) {
-        for _ in 0..MOST_GUESTS {
-            match self.way_back.take(self.rt) {
-                Some(caller) => self.let_in(caller),
-                None => return,
+        match accept_at(&self.sockets.administrator.listener) {
+            Accepted::Came(stream) => {
+                self.floor.welcome(self.rt, stream, Visitor::Administrator);
             }
+            Accepted::Nobody => self.is_administrator_waiting = false,
+            Accepted::Failed => self.make_room(),
         }
     }
 
-    /// Makes room where the system lacks a descriptor: whoever has been silent for longest is sent away.
-    fn make_room(&mut self) {
-        drop(self.hall.lobby.take_first());
-        thread::sleep(self.rt, Duration::from_millis(PAUSE));
+    /// Lets somebody in at the public door, if one waits.
+    fn answer_anyone(&mut self) {
+        if !self.is_anyone_waiting {
+            return;
+        }
+        match accept_at(&self.sockets.public.listener) {
+            Accepted::Came(stream) => self.floor.welcome(self.rt, stream, Visitor::Anyone),
+            Accepted::Nobody => self.is_anyone_waiting = false,
+            Accepted::Failed => self.make_room(),
+        }
     }
 
-    /// Lets one caller in at each door.
+    /// Lets some in who wait at the doors.
     fn answer_doors(&mut self) {
-        if self.is_administrator_waiting {
-            match accept_at(&self.sockets.administrator.listener) {
-                Accepted::Came(stream) => self.welcome(stream, Visitor::Administrator),
-                Accepted::Nobody => self.is_administrator_waiting = false,
-                Accepted::Failed => self.make_room(),
-            }
-        }
-        if self.is_anyone_waiting {
-            match accept_at(&self.sockets.public.listener) {
-                Accepted::Came(stream) => self.welcome(stream, Visitor::Anyone),
-                Accepted::Nobody => self.is_anyone_waiting = false,
-                Accepted::Failed => self.make_room(),
-            }
-        }
-    }
-
-    /// How long nothing is to be done but on an event.
-    fn rest(&self) -> Option<Duration> {
-        if self.is_administrator_waiting || self.is_anyone_waiting {
-            Some(Duration::ZERO)
-        } else if self.hall.lobby.is_empty() {
-            None
-        } else {
-            Some(Duration::from_secs(1))
-        }
-    }
-
-    /// Waits until somebody comes or sends something, or somebody may have been silent for too long.
-    fn look(&mut self) -> io::Result<()> {
-        let rest = self.rest();
-        self.hall.poll.poll(&mut self.hall.events, rest)?;
-        for event in self.hall.events.iter() {
-            match event.token() {
-                Token(ADMINISTRATOR) => self.is_administrator_waiting = true,
-                Token(ANYONE) => self.is_anyone_waiting = true,
-                Token(COMING_BACK) => {}
-                Token(number) => self.hall.lobby.note_sent(number),
-            }
-        }
-        Ok(())
-    }
-
-    /// Sends away whoever has been silent for too long.
-    fn send_silent_away(&mut self) {
-        let now = second_since(self.rt, &self.opened);
-        for _ in 0..MOST_GUESTS {
-            if self.hall.lobby.take_silent(now).is_none() {
+        for _ in 0..MOST_EVENTS {
+            self.answer_administrator();
+            self.answer_anyone();
+            if !self.is_administrator_waiting && !self.is_anyone_waiting {
                 return;
             }
         }
     }
 
-    /// The stream once more, to write to.
-    fn copy_of(&mut self, stream: &UnixStream) -> io::Result<UnixStream> {
-        match stream.try_clone() {
-            Ok(copy) => Ok(copy),
-            Err(_) => {
-                self.make_room();
-                stream.try_clone()
-            }
+    /// How long nothing is to be done but on an event, in milliseconds.
+    fn rest_millis(&self, now: u64) -> Option<u64> {
+        if let Some(delay) = self.floor.next_delay(now) {
+            return Some(delay.min(LOGIN_MILLIS));
         }
+        if self.floor.has_logins() {
+            return Some(LOGIN_MILLIS);
+        }
+        if self.floor.is_lobby_empty() {
+            return None;
+        }
+        Some(LOOK_MILLIS)
     }
 
-    /// The first client of the lobby that sent something.
-    fn take_client(&mut self) -> Option<(ClientSource<'r, R>, ClientSink<'r, R>)>
+    /// For how long the entrance may wait.
+    fn rest(&self, has_client: bool) -> Option<Duration> {
+        if has_client || self.is_administrator_waiting || self.is_anyone_waiting {
+            return Some(Duration::ZERO);
+        }
+        let now = self.floor.hall.now(self.rt);
+        Some(Duration::from_millis(self.rest_millis(now)?))
+    }
+
+    /// Waits until somebody comes or sends something, or somebody may have waited for too long.
+    fn look(&mut self, has_client: bool) -> io::Result<()> {
+        let rest = self.rest(has_client);
+        self.lookout.poll.poll(&mut self.lookout.events, rest)?;
+        for event in self.lookout.events.iter() {
+            match event.token() {
+                Token(ADMINISTRATOR) => self.is_administrator_waiting = true,
+                Token(ANYONE) => self.is_anyone_waiting = true,
+                Token(COMING_BACK) => {}
+                Token(number) => self.floor.look_at(self.rt, number),
+            }
+        }
+        Ok(())
+    }
+
+    /// Sends away, once a second, who has waited for too long.
+    fn look_after(&mut self) {
+        let now = self.floor.hall.now(self.rt);
+        if now.saturating_sub(self.looked) < LOOK_MILLIS {
+            return;
+        }
+        self.looked = now;
+        self.floor.send_slow_away(now);
+        self.log(now);
+    }
+
+    /// Tells the log, once a minute at most, of clients that were sent away.
+    fn log(&mut self, now: u64) {
+        let Departures { for_room, too_slow } = self.floor.departures;
+        let is_soon = self.logged > 0 && now.saturating_sub(self.logged) < LOG_MILLIS;
+        if is_soon || (for_room == 0 && too_slow == 0) {
+            return;
+        }
+        self.logged = now.max(1);
+        self.floor.departures = Departures {
+            for_room: 0,
+            too_slow: 0,
+        };
+        let _ = eprintln!(self.rt;
+            "bixethomi: clients sent away: {for_room} to make room for others, {too_slow} that were idle or too slow"
+        );
+    }
+
+    /// The next client that waits with a whole frame, where a place is free.
+    fn take_client(&mut self, accept: usize) -> Option<(ClientSource<'r, R>, ClientSink<'r, R>)>
         ensures { IfSome result (λ made. (⟦<ClientSource<'r, R> as Source>⟧.faults made.0 ≡ 0) × (⟦<ClientSink<'r, R> as Sink>⟧.faults made.1 ≡ 0)) }
     {
-        let Guest {
-            connection: caller,
-            number: _,
-            came: _,
-            has_sent: _,
-        } = self.hall.lobby.take_sent()?;
-        forget(&self.hall.poll, caller.stream.as_raw_fd()).ok()?;
-        let out = self.copy_of(&caller.stream).ok()?;
-        let way_back = Arc::try_clone(&self.way_back).ok()?;
-        self.way_back
-            .door
-            .note_given(second_since(self.rt, &self.opened));
-        connection(self.rt, self.rt.alloc(), caller, out, way_back, self.opened).ok()
+        let caller = self.floor.next_client(self.rt)?;
+        let place = Place::take(&self.floor.hall, caller.visitor, accept)?;
+        self.floor.hall.note_given(self.rt);
+        connection(self.rt, caller, place).ok()
     }
 
-    /// Waits for the next client.
-    fn await_client(&mut self) -> io::Result<(ClientSource<'r, R>, ClientSink<'r, R>)>
-        ensures { IfOk result (λ made. (⟦<ClientSource<'r, R> as Source>⟧.faults made.0 ≡ 0) × (⟦<ClientSink<'r, R> as Sink>⟧.faults made.1 ≡ 0)) }
-    {
-        for _ in 0..u64::MAX {
-            if let Some(made) = self.take_client() {
-                return Ok(made);
-            }
-            self.answer_doors();
-            self.look()?;
-            self.let_back();
-            self.send_silent_away();
-        }
-        Err(io::Error::from(ErrorKind::Other))
+    /// Looks at all who wait; for no longer than at once, where a client is there to be served.
+    fn attend_all(&mut self) -> io::Result<()> {
+        self.answer_doors();
+        let has_client = self.floor.can_serve();
+        self.look(has_client)?;
+        self.floor.let_back(self.rt);
+        self.floor.serve_logins(self.rt);
+        self.look_after();
+        Ok(())
     }
 
     /// The next client.
     pub fn next_client(&mut self) -> io::Result<(ClientSource<'r, R>, ClientSink<'r, R>)>
         ensures { IfOk result (λ made. (⟦<ClientSource<'r, R> as Source>⟧.faults made.0 ≡ 0) × (⟦<ClientSink<'r, R> as Sink>⟧.faults made.1 ≡ 0)) }
     {
-        self.way_back.door.note_waiting(true);
-        let next = self.await_client();
-        self.way_back.door.note_waiting(false);
-        next
+        let accept = self.floor.hall.note_accept();
+        for _ in 0..u64::MAX {
+            self.attend_all()?;
+            if let Some(made) = self.take_client(accept) {
+                return Ok(made);
+            }
+        }
+        Err(io::Error::from(ErrorKind::Other))
     }
 
-    /// From now on the connections that were given end once their clients are between two frames.
+    /// From now on the connections that were given end once no frame of their clients is served.
     pub fn wind_down(&self) {
-        self.way_back.end();
+        self.floor.hall.end();
     }
 
     /// Takes both sockets away.

@@ -57,10 +57,8 @@ pub struct PublicDoor {
     token: Token,
     attendance: Mutex<Attendance>,
     waker: Waker,
-    /// Whether the entrance waits for clients, and so can be spared at this door.
-    is_entrance_waiting: AtomicBool,
     next_number: AtomicUsize,
-    /// The second in which the entrance gave its last client.
+    /// The last second in which the entrance gave a client, or a session ended for it to give one.
     last_given: AtomicU64,
     is_ending: AtomicBool,
 }
@@ -73,7 +71,6 @@ impl Drop for PublicDoor {
             token: _,
             attendance: _,
             waker: _,
-            is_entrance_waiting: _,
             next_number: _,
             last_given: _,
             is_ending: _,
@@ -100,7 +97,6 @@ impl PublicDoor {
             token,
             attendance: Mutex::new(attendance),
             waker,
-            is_entrance_waiting: AtomicBool::new(false),
             next_number: AtomicUsize::new(first_number),
             last_given: AtomicU64::new(0),
             is_ending: AtomicBool::new(false),
@@ -117,9 +113,9 @@ impl PublicDoor {
         self.last_given.store(second, Ordering::SeqCst);
     }
 
-    /// Whether the entrance is to give the next client, since it gave none in this second: what is done then, is done once a second.
+    /// Whether no client was given in this second. From then on it counts as one in which the entrance gives one.
     pub fn is_due(&self, second: u64) -> bool {
-        self.last_given.load(Ordering::SeqCst) != second
+        self.last_given.swap(second, Ordering::SeqCst) != second
     }
 
     /// From now on the daemon ends.
@@ -149,11 +145,6 @@ impl PublicDoor {
         None
     }
 
-    /// Notes whether the entrance waits for clients. Where it serves one itself, no session may wait in its place: it may be the one.
-    pub fn note_waiting(&self, is_waiting: bool) {
-        self.is_entrance_waiting.store(is_waiting, Ordering::SeqCst);
-    }
-
     /// Waits for a client until the entrance hears of the next ones again. Who came while it cannot is sent away.
     fn await_and_return(&self, attendance: &mut Attendance) -> Option<UnixStream> {
         for _ in 0..u64::MAX {
@@ -166,11 +157,8 @@ impl PublicDoor {
         None
     }
 
-    /// Waits for a client in the place of the entrance; none where another session does so, the entrance is busy, or the daemon ends.
+    /// Waits for a client in the place of the entrance; none where another session does so, or the daemon ends.
     pub fn attend(&self) -> Option<UnixStream> {
-        if !self.is_entrance_waiting.load(Ordering::SeqCst) {
-            return None;
-        }
         let mut attendance = self.attendance.try_lock()?;
         let descriptor = self.listener.as_raw_fd();
         self.entrance.deregister(&mut SourceFd(&descriptor)).ok()?;
