@@ -1,0 +1,103 @@
+//! Frames in a stream of bytes, of which the beginnings are kept.
+use std::alloc::Global;
+
+/// How many bytes of a frame's body are kept. A login's are kept up to the user's name: no password is.
+const KEPT: usize = 1024;
+
+/// The command of a login.
+const LOGIN: u8 = 16;
+
+/// A stream of frames, as far as it has come.
+#[derive(Drop)]
+pub struct Frames {
+    /// The octets of the length, as many as have come.
+    octets: [u8; 4],
+    come: usize,
+    /// How much of the body is to come.
+    left: u32,
+    /// What is kept of the body.
+    head: Vec<u8>,
+    /// Whether the frames are requests.
+    are_requests: bool,
+}
+
+fn length_of_user(head: &[u8]) -> usize {
+    match head {
+        [_, high, low, ..] => usize::from(u16::from_be_bytes([*high, *low])),
+        _ => 0,
+    }
+}
+
+impl Frames {
+    /// The frames of requests, or of replies, before the first.
+    pub fn new(alloc: Global, are_requests: bool) -> Frames {
+        Frames {
+            octets: [0; 4],
+            come: 0,
+            left: 0,
+            head: Vec::new(alloc),
+            are_requests,
+        }
+    }
+
+    /// What is kept of the body of the last frame.
+    pub fn head(&self) -> &[u8] {
+        self.head.as_slice()
+    }
+
+    /// How much of the body is to be kept, as far as that is known.
+    fn most_kept(&self) -> usize {
+        if self.are_requests && self.head.first() == Some(&LOGIN) {
+            return 3 + length_of_user(self.head.as_slice());
+        }
+        KEPT
+    }
+
+    /// Keeps what is to be kept of these bytes of the body, in two steps: the first shows how much that is.
+    fn keep(&mut self, bytes: &[u8]) {
+        let first = bytes.len().min(3usize.saturating_sub(self.head.len()));
+        let (front, rest) = bytes.split_at(first);
+        if self.head.extend_from_slice(front).is_err() {
+            return;
+        }
+        let second = rest
+            .len()
+            .min(self.most_kept().saturating_sub(self.head.len()));
+        let _ = self.head.extend_from_slice(&rest[..second]);
+    }
+
+    /// Takes one octet of the length.
+    fn take_octet(&mut self, octet: u8) -> bool {
+        if self.come < 4 {
+            self.octets[self.come] = octet;
+            self.come += 1;
+        }
+        if self.come == 4 {
+            self.left = u32::from_be_bytes(self.octets);
+            self.head.clear();
+        }
+        self.come == 4 && self.left == 0
+    }
+
+    /// Takes the front of these bytes, which are at least one, up to the end of a part of a frame: how many they are, and
+    /// whether the frame is whole.
+    pub fn take(&mut self, bytes: &[u8]) -> (usize, bool) {
+        let [first, ..] = bytes else {
+            return (0, false);
+        };
+        if self.come < 4 {
+            let is_whole = self.take_octet(*first);
+            if is_whole {
+                self.come = 0;
+            }
+            return (1, is_whole);
+        }
+        let count = bytes.len().min(self.left as usize);
+        self.keep(&bytes[..count]);
+        self.left = self.left.saturating_sub(count as u32);
+        if self.left == 0 {
+            self.come = 0;
+        }
+        (count, self.left == 0)
+    }
+}
