@@ -8,7 +8,7 @@ of them; else by the word in front of the dash.
     deep      33 elements within each other         code      a result code
     many      three entries                         notice    a notice of disconnection, and the end
     others    messages of another number, no end    references, entries   such messages without end
-    drip      a byte a second                       silent    nothing
+    drip      a byte each fifth of a second         silent    nothing
 
 A name `bind-WORD-N` is there, and WORD is how its bind is answered. Any other name is not. The dice of an answer are
 those of SEED, the name and how often it was asked. Once its standard input ends, it prints how often it answered by each
@@ -196,7 +196,7 @@ class Connection(threading.Thread):
         elif word == "drip":
             for byte in whole:
                 send(bytes([byte]))
-                time.sleep(1)
+                time.sleep(0.2)
         elif word == "silent":
             time.sleep(120)
         else:

@@ -7,7 +7,7 @@ use sd_conf::{Config, Server, ServerList};
 use sd_dial::Dialer;
 use sd_link::LinkFailed;
 use sd_server::Equipment;
-use sd_tcp::{TcpDialer, TcpLink};
+use sd_tcp::{Links, TcpDialer, TcpLink};
 use std::io::Eprint;
 use std::net::Net;
 use std::sync::atomic::{AtomicU64, Ordering};
@@ -57,7 +57,7 @@ impl Health {
     }
 }
 
-/// A dialer over TCP that logs when a server no longer answers, and when it answers again. A session has one line
+/// A dialer that logs when a server no longer answers, and when it answers again. A session has one line
 /// at a time.
 #[derive(Drop)]
 pub struct WatchedDialer<'r, R: Net + Clock + Eprint> {
@@ -115,22 +115,25 @@ impl<'r, R: Net + Clock + Eprint> Dialer for WatchedDialer<'r, R> {
     }
 }
 
-/// What each session is made with: connections over TCP, and the system's clock. It logs when the journal fills, and when it has
+/// What each session is made with: connections to the servers, and the system's clock. It logs when the journal fills, and when it has
 /// room again.
 #[derive(Drop)]
 pub struct SystemTools<'r, R> {
     rt: &'r R,
     health: &'r Health,
+    /// Where servers are reached through sockets.
+    links: Option<Links>,
     /// Whether the log says that the journal fills.
     scarce: bool,
 }
 
 impl<'r, R> SystemTools<'r, R> {
     /// The log says nothing of the journal yet.
-    pub fn new(rt: &'r R, health: &'r Health) -> SystemTools<'r, R> {
+    pub fn new(rt: &'r R, health: &'r Health, links: Option<Links>) -> SystemTools<'r, R> {
         SystemTools {
             rt,
             health,
+            links,
             scarce: false,
         }
     }
@@ -147,9 +150,13 @@ where
     type Watch = OpenGate;
 
     fn dialer(&mut self, config: &Config) -> Result<WatchedDialer<'r, R>, Memory> {
+        let links = match &self.links {
+            Some(links) => Some(links.copy()?),
+            None => None,
+        };
         Ok(WatchedDialer {
             rt: self.rt,
-            dialer: TcpDialer::new(self.rt, config.servers.copy()?),
+            dialer: TcpDialer::new(self.rt, config.servers.copy()?, links),
             servers: config.servers.copy()?,
             health: self.health,
             dialled: 0,

@@ -1,15 +1,18 @@
 // The host that the daemon serves.
-ghost use Rattle.std.specs.Prelude.{◌≡◌, false, None};
+ghost use Rattle.std.specs.Prelude.{◌≡◌, false, IfOk, None};
 
 use crate::equipment::{Health, SystemTools};
 use crate::keeper::WatchedKeeper;
+use crate::links::links_beside;
 use sd_base::{Source, SourceFailed};
 use sd_doors::{DoorFailed, Doors};
 use sd_keeper::KeeperFault;
 use sd_server::{Host, Notice};
+use sd_tcp::Links;
 use sd_unix::UnixDoors;
 use std::alloc::{Alloc, Global};
 use std::fs::{File, Files};
+use std::io;
 use std::io::{Eprint, Read};
 use std::net::Net;
 use std::random::RandomSource;
@@ -46,6 +49,8 @@ pub struct SystemHost<'r, R> {
     /// What the store's keeper is made with.
     system: &'r HostRuntime,
     health: &'r Health,
+    /// Where servers are reached through sockets, once the doors are open.
+    links: Option<Links>,
     source_faults: u64,
     door_faults: u64,
     gave: bool,
@@ -59,6 +64,7 @@ impl<'r, R> SystemHost<'r, R> {
             rt,
             system,
             health,
+            links: None,
             source_faults: 0,
             door_faults: 0,
             gave: false,
@@ -66,6 +72,17 @@ impl<'r, R> SystemHost<'r, R> {
             store_failed: false,
         }
     }
+}
+
+/// The doors on the socket at a path, and the links beside it.
+fn open_doors<'r, R>(rt: &'r R, path: &str) -> io::Result<(UnixDoors<'r, R>, Option<Links>)>
+where
+    R: Files + Net + Clock + Eprint + Wait + Alloc<A = Global>,
+    ensures { IfOk result (λ made. ⟦<UnixDoors<'r, R> as Doors>⟧.faults made.0 ≡ 0) }
+{
+    let links = links_beside(rt, path)?;
+    let doors = UnixDoors::open(rt, path)?;
+    Ok((doors, links))
 }
 
 impl<'r, R> Host for SystemHost<'r, R>
@@ -137,8 +154,11 @@ where
     }
 
     fn listen(&mut self, path: &str) -> Result<UnixDoors<'r, R>, DoorFailed> {
-        match UnixDoors::open(self.rt, path) {
-            Ok(doors) => Ok(doors),
+        match open_doors(self.rt, path) {
+            Ok((doors, links)) => {
+                self.links = links;
+                Ok(doors)
+            }
             Err(_) => {
                 self.door_faults = self.door_faults.saturating_add(1);
                 Err(DoorFailed)
@@ -147,7 +167,7 @@ where
     }
 
     fn equipment(&mut self) -> SystemTools<'r, R> {
-        SystemTools::new(self.rt, self.health)
+        SystemTools::new(self.rt, self.health, self.links.take())
     }
 
     fn done_doors(&mut self, doors: UnixDoors<'r, R>) {

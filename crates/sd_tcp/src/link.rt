@@ -1,27 +1,45 @@
 //! One connection to a server.
 ghost use Rattle.std.specs.Prelude.{◌≡◌, ℕ, ◌<◌, [], length, IfOk, None, refl};
 ghost use Rattle.std.specs.Io.{ReadsAtMost};
+ghost use Rattle.sd_tcp.specs.Kinds as kinds;
 
+use crate::kind::is_bind;
+use crate::wire::Wire;
 use sd_dial::DirectoryLink;
 use sd_link::{Link, LinkFailed};
 use std::io;
-use std::io::{ErrorKind, Read, Write};
-use std::net::{Net, OpenStream};
+use std::io::ErrorKind;
+use std::net::Net;
 use std::time::{Clock, Duration, Instant};
 
 /// How long a single send or receive may wait, in seconds.
 const CALL_SECONDS: u64 = 6;
-/// How long all receives over a link may take together, in seconds.
-const LINK_SECONDS: u64 = 60;
+/// How long all receives of a lookup may take together, in seconds: the members of a group are read by a search each.
+const LOOKUP_SECONDS: u64 = 600;
+/// How long all receives of a bind may take together, in seconds.
+const BIND_SECONDS: u64 = 60;
 
-/// A connection over TCP. A send or receive that takes longer than six seconds fails, and so does a
-/// receive once the link is a minute old. It tells no content.
+/// A connection to a server. A send or receive that takes longer than six seconds fails, and so does a receive once the
+/// link is ten minutes old, or a minute where a bind was sent. It tells no content.
 #[derive(Drop)]
 pub struct TcpLink<'r, R: Net + Clock> {
     clock: &'r R,
-    stream: R::Stream,
+    stream: Wire<R::Stream>,
     opened: Instant,
+    /// How old it may become, in seconds.
+    lasts: u64,
     faults: u64,
+}
+
+/// How old a link may become where these bytes are sent over it, in seconds.
+fn seconds_for(bytes: &[u8]) -> u64
+    ensures { result ≡ kinds.seconds_for bytes.now }
+{
+    if is_bind(bytes) {
+        BIND_SECONDS
+    } else {
+        LOOKUP_SECONDS
+    }
 }
 
 /// What is left of so many seconds since a moment; no time left is an error.
@@ -33,29 +51,18 @@ fn time_left(clock: &impl Clock, since: &Instant, seconds: u64) -> io::Result<Du
     Ok(left)
 }
 
-/// Reads at least one byte; the peer's end is an error.
-fn read_some(stream: &mut impl Read, buf: &mut [u8]) -> io::Result<usize>
-    ensures bound { ReadsAtMost result buf.new }
-    ensures some { IfOk result (λ n. 0 < n) }
-{
-    let count = stream.read(buf)?;
-    if count == 0 {
-        return Err(io::Error::from(ErrorKind::UnexpectedEof));
-    }
-    Ok(count)
-}
-
 impl<'r, R: Net + Clock> TcpLink<'r, R> {
     /// A link over a stream that was connected just now. Small pieces are sent at once.
-    pub(crate) fn over(clock: &'r R, stream: R::Stream) -> io::Result<TcpLink<'r, R>>
+    pub(crate) fn over(clock: &'r R, stream: Wire<R::Stream>) -> io::Result<TcpLink<'r, R>>
         ensures { IfOk result (λ link. ⟦<TcpLink<'r, R> as Link>⟧.faults link ≡ 0) }
     {
-        stream.set_nodelay(true)?;
+        stream.send_at_once()?;
         let opened = Instant::now(clock)?;
         Ok(TcpLink {
             clock,
             stream,
             opened,
+            lasts: LOOKUP_SECONDS,
             faults: 0,
         })
     }
@@ -67,8 +74,7 @@ impl<'r, R: Net + Clock> TcpLink<'r, R> {
         let mut at = 0;
         while at < bytes.len() {
             let wait = time_left(self.clock, &begun, CALL_SECONDS)?;
-            self.stream.set_write_timeout(Some(wait))?;
-            let count = self.stream.write(&bytes[at..])?;
+            let count = self.stream.write_in(wait, &bytes[at..])?;
             if count == 0 {
                 return Err(io::Error::from(ErrorKind::WriteZero));
             }
@@ -82,10 +88,9 @@ impl<'r, R: Net + Clock> TcpLink<'r, R> {
         ensures some { IfOk result (λ n. 0 < n) }
         ensures faults { ⟦<TcpLink<'r, R> as Link>⟧.faults self.new ≡ ⟦<TcpLink<'r, R> as Link>⟧.faults self.old }
     {
-        let left = time_left(self.clock, &self.opened, LINK_SECONDS)?;
+        let left = time_left(self.clock, &self.opened, self.lasts)?;
         let wait = left.min(Duration::from_secs(CALL_SECONDS));
-        self.stream.set_read_timeout(Some(wait))?;
-        read_some(&mut self.stream, buf)
+        self.stream.read_some(wait, buf)
     }
 
     /// How many calls have failed.
@@ -114,6 +119,7 @@ impl<'r, R: Net + Clock> Link for TcpLink<'r, R> {
     ghost ends = { λ _. Unit {0} };
 
     fn send(&mut self, bytes: &[u8]) -> Result<(), LinkFailed> {
+        self.lasts = self.lasts.min(seconds_for(bytes));
         match self.write_whole(bytes) {
             Ok(()) => Ok(()),
             Err(_) => {
