@@ -188,6 +188,6 @@ news_text news = warning_text news
 abbrev pub front_text : ℕ → List ℕ
 front_text priority = numbered_within (codes "<") priority (codes ">bixethomi: ")
 
--- the line for news, with its line feed
+-- the line for news, without its line feed
 abbrev pub line_of : News → List ℕ
-line_of news = front_text (priority_of news) ++ (news_text news ++ codes "\n")
+line_of news = front_text (priority_of news) ++ news_text news

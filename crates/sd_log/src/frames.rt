@@ -47,10 +47,12 @@ impl Frames {
 
     /// How much of the body is to be kept, as far as that is known.
     fn most_kept(&self) -> usize {
-        if self.are_requests && self.head.first() == Some(&LOGIN) {
-            return 3 + length_of_user(self.head.as_slice());
+        match self.head.as_slice() {
+            [command, ..] if self.are_requests && *command == LOGIN => {
+                3 + length_of_user(self.head.as_slice())
+            }
+            _ => KEPT,
         }
-        KEPT
     }
 
     /// Keeps what is to be kept of these bytes of the body, in two steps: the first shows how much that is.
@@ -60,10 +62,9 @@ impl Frames {
         if self.head.extend_from_slice(front).is_err() {
             return;
         }
-        let second = rest
-            .len()
-            .min(self.most_kept().saturating_sub(self.head.len()));
-        let _ = self.head.extend_from_slice(&rest[..second]);
+        let room = self.most_kept().saturating_sub(self.head.len());
+        let second = rest.split_at(rest.len().min(room)).0;
+        let _ = self.head.extend_from_slice(second);
     }
 
     /// Takes one octet of the length.
@@ -79,25 +80,24 @@ impl Frames {
         self.come == 4 && self.left == 0
     }
 
-    /// Takes the front of these bytes, which are at least one, up to the end of a part of a frame: how many they are, and
-    /// whether the frame is whole.
-    pub fn take(&mut self, bytes: &[u8]) -> (usize, bool) {
-        let [first, ..] = bytes else {
-            return (0, false);
+    /// Takes the front of these bytes, up to the end of a part of a frame: what is behind, and whether the frame is whole.
+    pub fn take<'b>(&mut self, bytes: &'b [u8]) -> (&'b [u8], bool) {
+        let [first, behind @ ..] = bytes else {
+            return (bytes, false);
         };
         if self.come < 4 {
             let is_whole = self.take_octet(*first);
             if is_whole {
                 self.come = 0;
             }
-            return (1, is_whole);
+            return (behind, is_whole);
         }
-        let count = bytes.len().min(self.left as usize);
-        self.keep(&bytes[..count]);
-        self.left = self.left.saturating_sub(count as u32);
+        let (body, behind) = bytes.split_at(bytes.len().min(self.left as usize));
+        self.keep(body);
+        self.left = self.left.saturating_sub(body.len() as u32);
         if self.left == 0 {
             self.come = 0;
         }
-        (count, self.left == 0)
+        (behind, self.left == 0)
     }
 }

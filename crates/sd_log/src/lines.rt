@@ -5,9 +5,7 @@ ghost use Rattle.sd_log.specs.Levels as levels;
 
 use crate::news::{Asked, Fallen, Level, News, Order, Place, Told};
 use sd_base::{Memory, Text};
-use sd_wire::fields::{
-    push_bytes, push_numbered, push_numbered_within, push_worded,
-};
+use sd_wire::fields::{push_bytes, push_numbered, push_numbered_within, push_worded};
 use std::alloc::Global;
 
 /// The level that a word names; any other names that of logins.
@@ -129,18 +127,18 @@ fn code_words(code: u64) -> &'static [u8]
     ensures { result.now ≡ texts.code_words code }
 {
     match code {
-        3 => b" (time limit exceeded)",
-        4 => b" (size limit exceeded)",
-        8 => b" (stronger authentication required)",
-        13 => b" (confidentiality required)",
-        32 => b" (no such object)",
-        48 => b" (inappropriate authentication)",
-        49 => b" (invalid credentials)",
-        50 => b" (insufficient access rights)",
-        51 => b" (busy)",
-        52 => b" (unavailable)",
-        53 => b" (unwilling to perform)",
-        _ => b"",
+        3 => b" (time limit exceeded)".as_slice(),
+        4 => b" (size limit exceeded)".as_slice(),
+        8 => b" (stronger authentication required)".as_slice(),
+        13 => b" (confidentiality required)".as_slice(),
+        32 => b" (no such object)".as_slice(),
+        48 => b" (inappropriate authentication)".as_slice(),
+        49 => b" (invalid credentials)".as_slice(),
+        50 => b" (insufficient access rights)".as_slice(),
+        51 => b" (busy)".as_slice(),
+        52 => b" (unavailable)".as_slice(),
+        53 => b" (unwilling to perform)".as_slice(),
+        _ => b"".as_slice(),
     }
 }
 
@@ -166,12 +164,7 @@ fn push_fallen(alloc: Global, out: &mut Vec<u8>, why: Fallen) -> Result<(), Memo
     }
 }
 
-fn push_entry(
-    alloc: Global,
-    out: &mut Vec<u8>,
-    words: &[u8],
-    entry: u64,
-) -> Result<(), Memory>
+fn push_entry(alloc: Global, out: &mut Vec<u8>, words: &[u8], entry: u64) -> Result<(), Memory>
     ensures { OnOk result (out.new.items ≡ out.old.items ++ texts.with_entry words.now entry) }
 {
     push_bytes(out, words)?;
@@ -217,9 +210,7 @@ fn push_access(alloc: Global, out: &mut Vec<u8>, told: &Told) -> Result<(), Memo
         Told::GrantedPermit(n) => push_entry(alloc, out, b"granted by permit", *n),
         Told::GrantedSimple(n) => push_entry(alloc, out, b"granted by simple lists", *n),
         Told::GrantedRule(n, name) => push_rule(alloc, out, *n, name.bytes()),
-        Told::DeniedDeny(n) => {
-            push_entry(alloc, out, b"denied, access_provider is deny", *n)
-        }
+        Told::DeniedDeny(n) => { push_entry(alloc, out, b"denied, access_provider is deny", *n) }
         Told::DeniedSimple(n) => push_entry(alloc, out, b"denied, simple lists", *n),
         Told::DeniedNoRule(n) => push_entry(alloc, out, b"denied, no rule lets in", *n),
         _ => push_login(alloc, out, told),
@@ -314,12 +305,7 @@ fn push_asked(alloc: Global, out: &mut Vec<u8>, asked: &Asked) -> Result<(), Mem
     }
 }
 
-fn push_answered(
-    alloc: Global,
-    out: &mut Vec<u8>,
-    asked: &Asked,
-    told: &Told,
-) -> Result<(), Memory>
+fn push_answered(alloc: Global, out: &mut Vec<u8>, asked: &Asked, told: &Told) -> Result<(), Memory>
     ensures { OnOk result (out.new.items ≡ out.old.items ++ texts.answered_text asked.now told.now) }
 {
     push_asked(alloc, out, asked)?;
@@ -327,12 +313,7 @@ fn push_answered(
     push_told(alloc, out, told)
 }
 
-fn push_fell(
-    alloc: Global,
-    out: &mut Vec<u8>,
-    place: &Place,
-    why: Fallen,
-) -> Result<(), Memory>
+fn push_fell(alloc: Global, out: &mut Vec<u8>, place: &Place, why: Fallen) -> Result<(), Memory>
     ensures { OnOk result (out.new.items ≡ out.old.items ++ texts.fell_text place.now why) }
 {
     push_place(alloc, out, place)?;
@@ -395,12 +376,7 @@ fn push_of_modules(
     push_bytes(out, b"; it belongs into /etc/bixethomi/modules.conf")
 }
 
-fn push_provider(
-    alloc: Global,
-    out: &mut Vec<u8>,
-    line: u32,
-    provider: &[u8],
-) -> Result<(), Memory>
+fn push_provider(alloc: Global, out: &mut Vec<u8>, line: u32, provider: &[u8]) -> Result<(), Memory>
     ensures { OnOk result (out.new.items ≡ out.old.items ++ texts.provider_text line provider.now) }
 {
     push_numbered(alloc, out, b"line ", u64::from(line))?;
@@ -459,11 +435,23 @@ fn push_news(alloc: Global, out: &mut Vec<u8>, news: &News) -> Result<(), Memory
             push_numbered_within(alloc, out, b"outage ", *n, b" begins: no server answers")
         }
         News::OutageOrdered(n) => {
-            push_numbered_within(alloc, out, b"outage ", *n, b" begins: an administrator said so")
+            push_numbered_within(
+                alloc,
+                out,
+                b"outage ",
+                *n,
+                b" begins: an administrator said so",
+            )
         }
         News::OutageEnded(n, entry) => push_ended(alloc, out, *n, *entry),
         News::OutageLifted(n) => {
-            push_numbered_within(alloc, out, b"outage ", *n, b" ends: an administrator said so")
+            push_numbered_within(
+                alloc,
+                out,
+                b"outage ",
+                *n,
+                b" ends: an administrator said so",
+            )
         }
         News::Refuses(code) => push_refuses(alloc, out, *code),
         News::Fits(count) => push_numbered_within(
@@ -486,13 +474,12 @@ fn push_front(alloc: Global, out: &mut Vec<u8>, priority: u8) -> Result<(), Memo
     push_numbered_within(alloc, out, b"<", u64::from(priority), b">bixethomi: ")
 }
 
-/// The line of the log for news, with its line feed.
+/// The line of the log for news, without its line feed.
 pub fn line_of(alloc: Global, news: &News) -> Result<Text, Memory>
     ensures { IfOk result (λ line. line ≡ texts.line_of news.now) }
 {
     let mut out = Vec::new(alloc);
     push_front(alloc, &mut out, priority_of(news))?;
     push_news(alloc, &mut out, news)?;
-    push_bytes(&mut out, b"\n")?;
     Text::from_bytes(alloc, out.as_slice())
 }

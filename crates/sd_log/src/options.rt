@@ -17,7 +17,7 @@ fn domain_of<'a>(entries: &[Entry<'a>]) -> &'a [u8] {
             return entry.value;
         }
     }
-    b""
+    b"".as_slice()
 }
 
 fn is_read(domain: &[u8], section: &[u8]) -> bool {
@@ -48,7 +48,7 @@ fn half_read(alloc: Global, entry: &Entry<'_>) -> Result<Option<News>, Memory> {
         let provider = Text::from_bytes(alloc, entry.value)?;
         return Ok(Some(News::OtherProvider(entry.line, provider)));
     }
-    if entry.key == b"ldap_search_base".as_slice() && entry.value.contains(&b'?') {
+    if entry.key == b"ldap_search_base".as_slice() && entry.value.iter().any(|byte| *byte == b'?') {
         return Ok(Some(News::BaseWithFilter(entry.line)));
     }
     Ok(None)

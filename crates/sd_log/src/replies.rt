@@ -8,7 +8,7 @@ use std::alloc::Global;
 fn word_in(text: &[u8]) -> (&[u8], &[u8]) {
     match cut(b' ', text) {
         (word, Some(rest)) => (word, rest),
-        (word, None) => (word, b""),
+        (word, None) => (word, b"".as_slice()),
     }
 }
 

@@ -37,11 +37,7 @@ fn push_standing(alloc: Global, out: &mut Vec<u8>, standing: &Standing) -> Resul
     }
 }
 
-fn push_outage(
-    alloc: Global,
-    out: &mut Vec<u8>,
-    outage: Option<(u64, u64)>,
-) -> Result<(), Memory> {
+fn push_outage(alloc: Global, out: &mut Vec<u8>, outage: Option<(u64, u64)>) -> Result<(), Memory> {
     match outage {
         Some((since, until)) => {
             push_numbered(alloc, out, b"outage since ", since)?;
