@@ -49,7 +49,7 @@ impl Frames {
     fn most_kept(&self) -> usize {
         match self.head.as_slice() {
             [command, ..] if self.are_requests && *command == LOGIN => {
-                3 + length_of_user(self.head.as_slice())
+                length_of_user(self.head.as_slice()).saturating_add(3)
             }
             _ => KEPT,
         }
@@ -94,7 +94,8 @@ impl Frames {
         }
         let (body, behind) = bytes.split_at(bytes.len().min(self.left as usize));
         self.keep(body);
-        self.left = self.left.saturating_sub(body.len() as u32);
+        let taken = u32::try_from(body.len()).unwrap_or(u32::MAX);
+        self.left = self.left.saturating_sub(taken);
         if self.left == 0 {
             self.come = 0;
         }

@@ -32,7 +32,7 @@ fn is_of_modules(key: &[u8]) -> bool {
     key == b"min_id".as_slice() || key == b"max_id".as_slice()
 }
 
-fn passed(alloc: Global, entry: &Entry<'_>) -> Result<News, Memory> {
+fn useless(alloc: Global, entry: &Entry<'_>) -> Result<News, Memory> {
     let section = Text::from_bytes(alloc, entry.section)?;
     let key = Text::from_bytes(alloc, entry.key)?;
     if is_of_modules(entry.key) {
@@ -61,7 +61,7 @@ fn said_of(alloc: Global, domain: &[u8], entry: &Entry<'_>) -> Result<Option<New
     if is_known(domain, entry) {
         return half_read(alloc, entry);
     }
-    Ok(Some(passed(alloc, entry)?))
+    Ok(Some(useless(alloc, entry)?))
 }
 
 /// What the lines of a configuration say in vain. Of one that has no form nothing is said.

@@ -353,7 +353,8 @@ impl Board {
     /// A server has fallen since now.
     fn set_moment<R: Clock + Wait>(&self, rt: &R, number: u32) {
         let now = millis(rt) / 1000;
-        let mut moments = self.moments.lock(rt);
+        let mut guard = self.moments.lock(rt);
+        let moments = &mut *guard;
         moments[(number % 64) as usize] = now;
     }
 
@@ -418,8 +419,8 @@ impl Board {
     }
 
     /// The store took so long.
-    pub fn note_storing(&self, millis: u64) {
-        self.storing.store(millis, Ordering::SeqCst);
+    pub fn note_storing(&self, took: u64) {
+        self.storing.store(took, Ordering::SeqCst);
     }
 
     /// The journal was looked after.
@@ -430,6 +431,29 @@ impl Board {
             self.tell(rt, rt.alloc(), &News::Slow(whole, store));
         }
     }
+}
+
+/// Whether no refusal of a code was told within a minute; then it counts as told, in the place of the one told longest ago.
+fn is_new(refusals: &mut [Refusal; MOST_REFUSALS], code: u64, now: u64) -> bool {
+    let mut oldest = Refusal {
+        code: 0,
+        moment: u64::MAX,
+    };
+    let mut free = 0usize;
+    for place in 0..MOST_REFUSALS {
+        let told = refusals[place];
+        if told.code == code && now < told.moment.saturating_add(REFUSAL_SECONDS) {
+            return false;
+        }
+        if told.moment < oldest.moment {
+            oldest = told;
+            free = place;
+        }
+    }
+    if free < MOST_REFUSALS {
+        refusals[free] = Refusal { code, moment: now };
+    }
+    true
 }
 
 impl Board {
@@ -512,19 +536,8 @@ impl Board {
     /// Whether a refusal of this code is to be told: it was not within the last minute.
     fn is_new_refusal<R: Clock + Wait>(&self, rt: &R, code: u64) -> bool {
         let now = millis(rt) / 1000;
-        let mut refusals = self.refusals.lock(rt);
-        let mut oldest = 0usize;
-        for place in 0..MOST_REFUSALS {
-            let told = refusals[place];
-            if told.code == code && now < told.moment.saturating_add(REFUSAL_SECONDS) {
-                return false;
-            }
-            if told.moment < refusals[oldest].moment {
-                oldest = place;
-            }
-        }
-        refusals[oldest] = Refusal { code, moment: now };
-        true
+        let mut guard = self.refusals.lock(rt);
+        is_new(&mut *guard, code, now)
     }
 
     /// What a client was told may be news of the servers.

@@ -53,8 +53,8 @@ fn behind_whole(bytes: &[u8]) -> usize {
 }
 
 /// Why a call failed that began so long ago.
-fn failure_after(millis: u64, otherwise: Fallen) -> Fallen {
-    if millis >= LONG_MILLIS {
+fn failure_after(took: u64, otherwise: Fallen) -> Fallen {
+    if took >= LONG_MILLIS {
         Fallen::TimedOut
     } else {
         otherwise
@@ -305,6 +305,6 @@ impl<'r, R: Clock + Alloc<A = Global>, L: DirectoryLink + Drop> DirectoryLink
 }
 
 /// Why a dial failed that took so long.
-pub fn undialled(millis: u64) -> Fallen {
-    failure_after(millis, Fallen::NoConnection)
+pub fn undialled(took: u64) -> Fallen {
+    failure_after(took, Fallen::NoConnection)
 }

@@ -6,6 +6,7 @@ use sd_base::{Memory, Sink, SinkFailed, Source, SourceFailed};
 use sd_doors::{DoorFailed, Doors};
 use sd_log::{Asked, Frames, Level, News, Order, Told, asked_of, told_of};
 use std::alloc::{Alloc, Global};
+use std::collections::VecDeque;
 use std::fs::Files;
 use std::io::Eprint;
 use std::sync::atomic::{AtomicU64, Ordering};
@@ -24,7 +25,7 @@ pub struct Noted {
 
 /// The questions of one client that are to be logged.
 pub struct Talk {
-    noted: Mutex<Vec<Noted>>,
+    noted: Mutex<VecDeque<Noted>>,
     /// The place of the first of them, or the greatest number: read without the lock.
     first: AtomicU64,
 }
@@ -38,7 +39,7 @@ impl Drop for Talk {
 impl Talk {
     fn new(alloc: Global) -> Talk {
         Talk {
-            noted: Mutex::new(Vec::new(alloc)),
+            noted: Mutex::new(VecDeque::new(alloc)),
             first: AtomicU64::new(u64::MAX),
         }
     }
@@ -50,7 +51,7 @@ impl Talk {
             return;
         }
         let is_first = noted.is_empty();
-        if noted.push(Noted { place, asked }).is_ok() && is_first {
+        if noted.push_back(Noted { place, asked }).is_ok() && is_first {
             self.first.store(place, Ordering::SeqCst);
         }
     }
@@ -61,11 +62,8 @@ impl Talk {
             return None;
         }
         let mut noted = self.noted.lock(rt);
-        if noted.is_empty() {
-            return None;
-        }
-        let Noted { place: _, asked } = noted.remove(0);
-        let next = match noted.first() {
+        let Noted { place: _, asked } = noted.pop_front()?;
+        let next = match noted.front() {
             Some(next) => next.place,
             None => u64::MAX,
         };
