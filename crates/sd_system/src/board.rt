@@ -216,32 +216,29 @@ impl Board {
 }
 
 impl Board {
-    /// The daemon serves from now on, with its status file beside this socket.
-    pub fn begin<R>(&self, rt: &R, socket: &str)
+    /// The doors on this socket are open: the status file is to be beside it.
+    pub fn begin<R: Clock + Wait + Alloc<A = Global>>(&self, rt: &R, socket: &str) {
+        self.up.store(millis(rt) / 1000, Ordering::SeqCst);
+        let path = format!(in rt.alloc(); "{socket}.status");
+        let mut place = self.place.lock(rt);
+        place.path = path.ok();
+    }
+
+    /// The status file tells of the servers and times of this configuration.
+    pub fn know<R>(&self, rt: &R, config: &Config)
     where
         R: Files + Clock + Wait + Alloc<A = Global>,
     {
-        self.up.store(millis(rt) / 1000, Ordering::SeqCst);
-        let path = format!(in rt.alloc(); "{socket}.status");
-        self.set_path(rt, path.ok());
+        self.room
+            .store(u64::from(config.settings.journal_limit), Ordering::SeqCst);
+        self.put_servers(rt, config);
         self.change(rt);
     }
 
-    fn set_path<R: Wait>(&self, rt: &R, path: Option<String>) {
+    fn put_servers<R: Wait>(&self, rt: &R, config: &Config) {
         let mut place = self.place.lock(rt);
-        place.path = path;
-    }
-
-    /// The servers and times of a configuration are those of the status file.
-    pub fn know<R: Wait>(&self, rt: &R, config: &Config) {
-        self.room
-            .store(u64::from(config.settings.journal_limit), Ordering::SeqCst);
-        let mut place = self.place.lock(rt);
-        if place.servers.is_none() {
-            place.servers = config.servers.copy().ok();
-            place.outage_seconds = u64::from(config.settings.offline_timeout);
-            self.is_stale.store(true, Ordering::SeqCst);
-        }
+        place.servers = config.servers.copy().ok();
+        place.outage_seconds = u64::from(config.settings.offline_timeout);
     }
 
     /// The daemon has ended: the status file is taken away.

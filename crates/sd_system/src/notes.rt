@@ -5,8 +5,10 @@ use sd_conf::read_conf;
 use sd_log::{Level, News, passed_over};
 use sd_server::{Notice, ServeEnd};
 use std::alloc::{Alloc, Global};
+use std::fs::Files;
 use std::io::Eprint;
 use std::sync::Wait;
+use std::time::Clock;
 
 /// Whether a notice tells that all is in order.
 fn is_in_order(notice: Notice) -> bool {
@@ -50,12 +52,10 @@ fn log_lines<R: Eprint + Alloc<A = Global>>(
 }
 
 /// Logs to which servers passwords go in clear: those on other hosts.
-fn log_servers<R: Eprint + Wait + Alloc<A = Global>>(
-    rt: &R,
-    board: &Board,
-    text: &[u8],
-    has_links: bool,
-) -> Result<(), Memory> {
+fn log_servers<R>(rt: &R, board: &Board, text: &[u8], has_links: bool) -> Result<(), Memory>
+where
+    R: Files + Clock + Eprint + Wait + Alloc<A = Global>,
+{
     let Ok(config) = read_conf(rt.alloc(), text) else {
         return Ok(());
     };
@@ -72,12 +72,10 @@ fn log_servers<R: Eprint + Wait + Alloc<A = Global>>(
 }
 
 /// Logs what there is to say of a configuration that is served by.
-pub fn log_configuration<R: Eprint + Wait + Alloc<A = Global>>(
-    rt: &R,
-    board: &Board,
-    text: Option<Vec<u8>>,
-    has_links: bool,
-) {
+pub fn log_configuration<R>(rt: &R, board: &Board, text: Option<Vec<u8>>, has_links: bool)
+where
+    R: Files + Clock + Eprint + Wait + Alloc<A = Global>,
+{
     if let Some(text) = text {
         let _ = log_lines(rt, board, text.as_slice());
         let _ = log_servers(rt, board, text.as_slice(), has_links);
