@@ -398,15 +398,12 @@ impl Board {
         self.write(rt);
     }
 
-    /// The store was written, with so many users and groups that are known.
-    pub fn note_stored<R>(&self, rt: &R, users: u64, groups: u64)
-    where
-        R: Files + Clock + Wait + Alloc<A = Global>,
-    {
+    /// The store was written at a moment, with so many users and groups that are known. The file tells it after the round.
+    pub fn note_stored(&self, moment: u64, users: u64, groups: u64) {
         self.users.store(users, Ordering::SeqCst);
         self.groups.store(groups, Ordering::SeqCst);
-        self.stored.store(millis(rt) / 1000, Ordering::SeqCst);
-        self.change(rt);
+        self.stored.store(moment, Ordering::SeqCst);
+        self.is_stale.store(true, Ordering::SeqCst);
     }
 
     /// The journal is looked after from now on.

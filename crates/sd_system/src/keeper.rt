@@ -121,7 +121,8 @@ impl<'r> Keeper for WatchedKeeper<'r> {
         self.note(done.is_err());
         if done.is_ok() {
             let (users, groups) = known(blobs);
-            self.board.note_stored(self.rt, users, groups);
+            self.board
+                .note_stored(millis(self.rt) / 1000, users, groups);
         }
         done
     }
