@@ -17,7 +17,7 @@ const LONG_MILLIS: u64 = 5000;
 const MOST_BYTES: u64 = 67_108_864;
 
 /// How many bytes are kept to be looked at.
-const MOST_KEPT: usize = 4_194_304;
+const MOST_KEPT: usize = 1_048_576;
 
 /// How long a message may be that is looked at where nothing speaks for a fall.
 const SHORT: usize = 4096;
