@@ -1,5 +1,5 @@
 //! The loop that lets clients in.
-ghost use Rattle.std.specs.Prelude.{◌≡◌, ◌≤◌, ◌*◌, ◌↔◌, true, IfErr, IsTrue, OnOk};
+ghost use Rattle.std.specs.Prelude.{◌≡◌, ◌≤◌, true, IfErr, OnOk};
 ghost use Rattle.sd_base.specs.Causes.{Rose};
 ghost use Rattle.sd_desk.specs.Desks.{front, IsOwn, HoldsNoTurn};
 ghost use Rattle.sd_server.specs.Ends.{EndsBy};
@@ -121,13 +121,6 @@ fn forget_in_time<R: Wait>(rt: &R, desk: &Desk, seat: &mut DeskSeat)
     }
 }
 
-/// Whether nine tenths of the entries that a journal may hold are taken.
-fn is_scarce(entries: usize, limit: u32) -> bool
-    ensures { IsTrue result ↔ 9 * limit ≤ 10 * entries }
-{
-    9 * u128::from(limit) <= 10 * entries as u128
-}
-
 /// What is done once a client was let in: the journal forgets, and the store gets its rows, each in its time. Tells whether the
 /// operator's word to end the daemon was given; then nothing of this is done.
 fn look_after<R: Wait, K: Keeper>(
@@ -245,7 +238,7 @@ where
             return ServeEnd::Stopped;
         }
         let limit = desk.config().settings.journal_limit;
-        equipment.note_room(is_scarce(seat.counts().entries, limit));
+        equipment.note_room(seat.counts().entries, limit);
     }
     unreachable!()
 }

@@ -29,8 +29,8 @@ pub trait Equipment {
     /// What is called before a directory is asked.
     fn gate(&mut self) -> Self::Watch;
 
-    /// Is told, after each client that is let in, whether nine tenths of the entries that the journal may hold are taken.
-    fn note_room(&mut self, _scarce: bool) {}
+    /// Is told, after each client that is let in, how many entries the journal has, and how many it may have.
+    fn note_room(&mut self, _entries: usize, _limit: u32) {}
 }
 
 /// A client, with the seat and the things that its session works with.

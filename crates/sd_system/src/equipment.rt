@@ -1,28 +1,38 @@
 // What each session is made with.
 ghost use Rattle.std.specs.Prelude.{◌≡◌, None};
 
+use crate::board::{Board, is_scarce, millis};
+use crate::line::{WatchedLine, undialled};
 use sd_base::{Copied, Memory};
 use sd_clock::{Clock as Moments, OpenGate};
-use sd_conf::{Config, Server, ServerList};
+use sd_conf::{Config, ServerList};
 use sd_dial::Dialer;
 use sd_link::LinkFailed;
+use sd_log::{Fallen, News};
 use sd_server::Equipment;
-use sd_tcp::{Links, TcpDialer, TcpLink};
+use sd_tcp::{Links, TcpDialer};
+use std::alloc::{Alloc, Global};
+use std::fs::Files;
 use std::io::Eprint;
 use std::net::Net;
-use std::sync::atomic::{AtomicU64, Ordering};
+use std::sync::Wait;
 use std::time::Clock;
 
 /// The system's clock, in whole seconds since 1970-01-01 00:00:00 UTC, so that moments outlive a reboot. It tells no readings.
 #[derive(Drop)]
 pub struct SystemClock<'r, R> {
     rt: &'r R,
+    /// Where the readings begin a round of looking after the journal, the board that is told.
+    rounds: Option<&'r Board>,
 }
 
 impl<'r, R: Clock> Moments for SystemClock<'r, R> {
     ghost readings = { λ _. None };
 
     fn now(&mut self) -> u64 {
+        if let Some(board) = self.rounds {
+            board.begin_round(self.rt);
+        }
         match self.rt.since_1970() {
             Ok(now) => now.as_secs(),
             Err(_) => 0,
@@ -30,64 +40,38 @@ impl<'r, R: Clock> Moments for SystemClock<'r, R> {
     }
 }
 
-/// Which servers answered when they were last dialled. All sessions share it.
+/// A dialer that logs each fall of a server, with the reason, and when the server answers again. A session has one line at a time.
 #[derive(Drop)]
-pub struct Health {
-    /// A bit for each server, of which a configuration has 64 at most: it is set where the server did not answer.
-    fallen: AtomicU64,
-}
-
-impl Health {
-    /// Every server counts as one that answers.
-    pub fn new() -> Health {
-        Health {
-            fallen: AtomicU64::new(0),
-        }
-    }
-
-    /// Notes whether a server answered; tells whether that is news.
-    fn note(&self, server: u32, answered: bool) -> bool {
-        let bit = 1u64 << (server % 64);
-        let before = if answered {
-            self.fallen.fetch_and(!bit, Ordering::SeqCst)
-        } else {
-            self.fallen.fetch_or(bit, Ordering::SeqCst)
-        };
-        (before & bit == 0) != answered
-    }
-}
-
-/// A dialer that logs when a server no longer answers, and when it answers again. A session has one line
-/// at a time.
-#[derive(Drop)]
-pub struct WatchedDialer<'r, R: Net + Clock + Eprint> {
+pub struct WatchedDialer<'r, R, D: Drop> {
     rt: &'r R,
-    dialer: TcpDialer<'r, R>,
+    dialer: D,
     servers: ServerList,
-    health: &'r Health,
+    board: &'r Board,
     dialled: u32,
 }
 
-impl<'r, R: Net + Clock + Eprint> WatchedDialer<'r, R> {
-    fn note(&self, answered: bool) {
-        if !self.health.note(self.dialled, answered) {
+impl<'r, R, D: Drop> WatchedDialer<'r, R, D>
+where
+    R: Files + Clock + Eprint + Wait + Alloc<A = Global>,
+{
+    /// Notes what came of a dial or of a line.
+    fn note(&self, fallen: Option<Fallen>) {
+        let Some(server) = self.servers.get(self.dialled as usize) else {
             return;
+        };
+        match fallen {
+            Some(why) => self.board.fell(self.rt, server, self.dialled, why),
+            None => self.board.answered(self.rt, server, self.dialled),
         }
-        let Some(Server { host, port }) = self.servers.get(self.dialled as usize) else {
-            return;
-        };
-        let host = str::from_utf8(host.bytes()).unwrap_or("?");
-        let news = if answered {
-            "answers again"
-        } else {
-            "does not answer"
-        };
-        let _ = eprintln!(self.rt; "bixethomi: server {host}:{port} {news}");
     }
 }
 
-impl<'r, R: Net + Clock + Eprint> Dialer for WatchedDialer<'r, R> {
-    type Line = TcpLink<'r, R>;
+impl<'r, R, D: Dialer + Drop> Dialer for WatchedDialer<'r, R, D>
+where
+    R: Files + Clock + Eprint + Wait + Alloc<A = Global>,
+    D::Line: Drop,
+{
+    type Line = WatchedLine<'r, R, D::Line>;
 
     ghost operations = { λ _. None };
 
@@ -95,23 +79,24 @@ impl<'r, R: Net + Clock + Eprint> Dialer for WatchedDialer<'r, R> {
 
     ghost behind = { λ _ _. None };
 
-    ghost faults = { λ d. ⟦<TcpDialer<'r, R> as Dialer>⟧.faults d.dialer };
+    ghost faults = { λ d. D.faults d.dialer };
 
-    fn dial(&mut self, server: u32) -> Result<TcpLink<'r, R>, LinkFailed> {
+    fn dial(&mut self, server: u32) -> Result<WatchedLine<'r, R, D::Line>, LinkFailed> {
         self.dialled = server;
+        let begun = millis(self.rt);
         match self.dialer.dial(server) {
-            Ok(line) => Ok(line),
+            Ok(line) => Ok(WatchedLine::new(self.rt, line)),
             Err(LinkFailed) => {
-                self.note(false);
+                self.note(Some(undialled(millis(self.rt).saturating_sub(begun))));
                 Err(LinkFailed)
             }
         }
     }
 
-    fn done(&mut self, line: TcpLink<'r, R>) {
-        let answered = line.faults() == 0;
+    fn done(&mut self, line: WatchedLine<'r, R, D::Line>) {
+        let (line, fallen) = line.end();
         self.dialer.done(line);
-        self.note(answered);
+        self.note(fallen);
     }
 }
 
@@ -120,36 +105,43 @@ impl<'r, R: Net + Clock + Eprint> Dialer for WatchedDialer<'r, R> {
 #[derive(Drop)]
 pub struct SystemTools<'r, R> {
     rt: &'r R,
-    health: &'r Health,
+    board: &'r Board,
     /// Where servers are reached through sockets.
     links: Option<Links>,
     /// Whether the log says that the journal fills.
     scarce: bool,
+    /// Whether a clock was made: the first is that of who looks after the journal.
+    has_clock: bool,
 }
 
 impl<'r, R> SystemTools<'r, R> {
     /// The log says nothing of the journal yet.
-    pub fn new(rt: &'r R, health: &'r Health, links: Option<Links>) -> SystemTools<'r, R> {
+    pub fn new(rt: &'r R, board: &'r Board, links: Option<Links>) -> SystemTools<'r, R> {
         SystemTools {
             rt,
-            health,
+            board,
             links,
             scarce: false,
+            has_clock: false,
         }
     }
 }
 
-impl<'r, R: Net + Clock + Eprint + Sync> Equipment for SystemTools<'r, R>
+impl<'r, R> Equipment for SystemTools<'r, R>
 where
+    R: Files + Net + Clock + Eprint + Wait + Alloc<A = Global> + Sync,
     R::Stream: Send,
 {
-    type Dial = WatchedDialer<'r, R>;
+    type Dial = WatchedDialer<'r, R, TcpDialer<'r, R>>;
 
     type Time = SystemClock<'r, R>;
 
     type Watch = OpenGate;
 
-    fn dialer(&mut self, config: &Config) -> Result<WatchedDialer<'r, R>, Memory> {
+    fn dialer(
+        &mut self,
+        config: &Config,
+    ) -> Result<WatchedDialer<'r, R, TcpDialer<'r, R>>, Memory> {
         let links = match &self.links {
             Some(links) => Some(links.copy()?),
             None => None,
@@ -158,29 +150,37 @@ where
             rt: self.rt,
             dialer: TcpDialer::new(self.rt, config.servers.copy()?, links),
             servers: config.servers.copy()?,
-            health: self.health,
+            board: self.board,
             dialled: 0,
         })
     }
 
     fn clock(&mut self) -> SystemClock<'r, R> {
-        SystemClock { rt: self.rt }
+        let is_first = !self.has_clock;
+        self.has_clock = true;
+        SystemClock {
+            rt: self.rt,
+            rounds: if is_first { Some(self.board) } else { None },
+        }
     }
 
     fn gate(&mut self) -> OpenGate {
         OpenGate
     }
 
-    fn note_room(&mut self, scarce: bool) {
+    fn note_room(&mut self, entries: usize, limit: u32) {
+        self.board.end_round(self.rt);
+        self.board.count(self.rt, entries);
+        let scarce = is_scarce(entries, limit);
         if scarce == self.scarce {
             return;
         }
         self.scarce = scarce;
         let news = if scarce {
-            "has nine tenths of the entries that journal_limit allows"
+            News::JournalFills
         } else {
-            "has room again"
+            News::JournalHasRoom
         };
-        let _ = eprintln!(self.rt; "bixethomi: the journal {news}");
+        self.board.tell(self.rt, self.rt.alloc(), &news);
     }
 }
