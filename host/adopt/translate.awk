@@ -18,6 +18,7 @@ BEGIN {
     # The name of a server is that of a Unix socket.
     MOST_NAME = 70
     GREATEST = "4294967295"
+    GREATEST_ID = "4294967294"
     NO_FLAG = "is neither TRUE nor FALSE"
     split("sssd nss pam", HEADS, " ")
     KEYS["sssd"] = "domains journal_limit"
@@ -721,7 +722,10 @@ function bind_with_password(    type) {
 function bound(key, name,    number) {
     number = option(key)
     if (number == "") return
-    if (!is_number(number)) { refuse_value(domain, key, "is no number from 0 to " GREATEST); return }
+    if (!is_number(number) || number + 0 > GREATEST_ID + 0) {
+        refuse_value(domain, key, "is no number from 0 to " GREATEST_ID)
+        return
+    }
     if (number + 0 == 0) { decide(key, "none", "0 is no bound"); return }
     decide(key, "modules", "modules.conf " name)
     number += 0
