@@ -591,8 +591,9 @@ function add_servers(key, list,    items, count, i, is_host) {
         else if (is_host) add_host(key, items[i])
         else add_uri(key, items[i])
     }
-    decide(key, server_text[key] == "" ? "none" : "honoured",
-        (server_text[key] == "" ? (server_note[key] == "" ? "other options name these servers" : "no server") : server_text[key]) server_note[key])
+    if (server_text[key] != "") decide(key, "honoured", server_text[key] server_note[key])
+    else if (server_note[key] != "") decide(key, "none", "no server" server_note[key])
+    else decide(key, "none", "other options name these servers")
 }
 
 function translate_servers(    main, backup) {
@@ -629,7 +630,7 @@ function translate_tls(    check) {
     check = tolower(option("ldap_tls_reqcert"))
     tls_check = "demand"
     if (!is_tls_used) {
-        no_tls("ldap_tls_reqcert"); no_tls("ldap_tls_cacert"); no_tls("ldap_tls_cacertdir"); no_tls("ldap_tls_cert"); no_tls("ldap_tls_key")
+        pass_tls_over()
         return
     }
     if (check == "never" || check == "allow") {
@@ -650,7 +651,10 @@ function translate_tls(    check) {
 
 function server_key() { return provider == "ipa" && option("ldap_uri") == "" ? "ipa_server" : "ldap_uri" }
 
-function no_tls(key) { decide(key, "none", "no server is reached by TLS") }
+function pass_tls_over(    keys, count, i) {
+    count = split("ldap_tls_reqcert ldap_tls_cacert ldap_tls_cacertdir ldap_tls_cert ldap_tls_key", keys, " ")
+    for (i = 1; i <= count; i++) decide(keys[i], "none", "no server is reached by TLS")
+}
 
 function tls_file(key, text) {
     if (option(key) == "") return ""
