@@ -124,9 +124,7 @@ static struct outcome ask_record(const struct request *request, char *buffer, si
     return outcome_of_saying(reply.saying);
 }
 
-/* A user has to have both numbers within the limits, as sssd has it. */
-static struct outcome ask_user(const struct request *request, const struct limits *limits, struct passwd *user, char *buffer,
-                               size_t room)
+static struct outcome ask_user(const struct request *request, struct passwd *user, char *buffer, size_t room)
 {
     size_t line = 0;
     size_t length = 0;
@@ -134,13 +132,10 @@ static struct outcome ask_user(const struct request *request, const struct limit
 
     if (outcome.status == NSS_STATUS_SUCCESS)
         outcome = outcome_of_reading(read_user(buffer, line, length, room, user));
-    if (outcome.status == NSS_STATUS_SUCCESS && !(is_within(limits, user->pw_uid) && is_within(limits, user->pw_gid)))
-        outcome = not_found;
     return outcome;
 }
 
-static struct outcome ask_group(const struct request *request, const struct limits *limits, struct group *group, char *buffer,
-                                size_t room)
+static struct outcome ask_group(const struct request *request, struct group *group, char *buffer, size_t room)
 {
     size_t line = 0;
     size_t length = 0;
@@ -148,9 +143,13 @@ static struct outcome ask_group(const struct request *request, const struct limi
 
     if (outcome.status == NSS_STATUS_SUCCESS)
         outcome = outcome_of_reading(read_group(buffer, line, length, room, group));
-    if (outcome.status == NSS_STATUS_SUCCESS && !is_within(limits, group->gr_gid))
-        outcome = not_found;
     return outcome;
+}
+
+/* A user has to have both numbers within the limits, as sssd has it. */
+static bool is_given_user(const struct limits *limits, const struct passwd *user)
+{
+    return is_within(limits, user->pw_uid) && is_within(limits, user->pw_gid);
 }
 
 enum nss_status _nss_bixethomi_getpwnam_r(const char *name, struct passwd *result, char *buffer, size_t room, int *error)
@@ -162,9 +161,11 @@ enum nss_status _nss_bixethomi_getpwnam_r(const char *name, struct passwd *resul
     struct outcome outcome = not_found;
 
     if (is_asked(name) && request_by_name(&request, COMMAND_USER, name))
-        outcome = ask_user(&request, &limits, &user, buffer, room);
+        outcome = ask_user(&request, &user, buffer, room);
     if (outcome.status == NSS_STATUS_SUCCESS && strcmp(user.pw_name, name) != 0)
         outcome = faulty;
+    if (outcome.status == NSS_STATUS_SUCCESS && !is_given_user(&limits, &user))
+        outcome = not_found;
     if (outcome.status == NSS_STATUS_SUCCESS)
         *result = user;
     errno = saved;
@@ -180,9 +181,11 @@ enum nss_status _nss_bixethomi_getpwuid_r(uid_t uid, struct passwd *result, char
     struct outcome outcome = not_found;
 
     if (is_within(&limits, uid) && request_by_number(&request, COMMAND_UID, uid))
-        outcome = ask_user(&request, &limits, &user, buffer, room);
+        outcome = ask_user(&request, &user, buffer, room);
     if (outcome.status == NSS_STATUS_SUCCESS && user.pw_uid != uid)
         outcome = faulty;
+    if (outcome.status == NSS_STATUS_SUCCESS && !is_given_user(&limits, &user))
+        outcome = not_found;
     if (outcome.status == NSS_STATUS_SUCCESS)
         *result = user;
     errno = saved;
@@ -198,9 +201,11 @@ enum nss_status _nss_bixethomi_getgrnam_r(const char *name, struct group *result
     struct outcome outcome = not_found;
 
     if (is_asked(name) && request_by_name(&request, COMMAND_GROUP, name))
-        outcome = ask_group(&request, &limits, &group, buffer, room);
+        outcome = ask_group(&request, &group, buffer, room);
     if (outcome.status == NSS_STATUS_SUCCESS && strcmp(group.gr_name, name) != 0)
         outcome = faulty;
+    if (outcome.status == NSS_STATUS_SUCCESS && !is_within(&limits, group.gr_gid))
+        outcome = not_found;
     if (outcome.status == NSS_STATUS_SUCCESS)
         *result = group;
     errno = saved;
@@ -216,7 +221,7 @@ enum nss_status _nss_bixethomi_getgrgid_r(gid_t gid, struct group *result, char 
     struct outcome outcome = not_found;
 
     if (is_within(&limits, gid) && request_by_number(&request, COMMAND_GID, gid))
-        outcome = ask_group(&request, &limits, &group, buffer, room);
+        outcome = ask_group(&request, &group, buffer, room);
     if (outcome.status == NSS_STATUS_SUCCESS && group.gr_gid != gid)
         outcome = faulty;
     if (outcome.status == NSS_STATUS_SUCCESS)

@@ -204,6 +204,7 @@ static enum nss_status ask_record(const struct question *question, char *buffer,
 static void ask_once(const struct question *question, char *answer)
 {
     char record[ANSWER] = "";
+    char *end;
     enum nss_status status;
     int error = 0;
 
@@ -225,7 +226,10 @@ static void ask_once(const struct question *question, char *answer)
             error = 0;
         }
     }
-    snprintf(answer, ANSWER, "%s %s%s", status_name(status), status == NSS_STATUS_SUCCESS ? "-" : strerrorname_np(error), record);
+    end = stpcpy(stpcpy(stpcpy(answer, status_name(status)), " "), status == NSS_STATUS_SUCCESS ? "-" : strerrorname_np(error));
+    if (strlen(record) >= (size_t)(answer + ANSWER - end))
+        fail("the answer is too long to be shown");
+    strcpy(end, record);
 }
 
 /* A child's answer has to be the same, and takes nothing from its parent's connection. */
