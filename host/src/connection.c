@@ -13,13 +13,15 @@
 #include <unistd.h>
 
 #ifndef BIXETHOMI_SOCKET_PATH
-#error "BIXETHOMI_SOCKET_PATH is the daemon's public socket"
+#error "BIXETHOMI_SOCKET_PATH is the administrator's socket of the daemon"
 #endif
 
-/* Seconds for being connected, of those of a whole question. */
+/* Seconds for connecting to one socket, of those of a whole question. */
 #ifndef BIXETHOMI_CONNECT_SECONDS
-#define BIXETHOMI_CONNECT_SECONDS 10
+#define BIXETHOMI_CONNECT_SECONDS 3
 #endif
+
+static const char public_suffix[] = ".public";
 
 static const int64_t nanoseconds_of_second = 1000000000;
 
@@ -44,22 +46,29 @@ static int64_t time_left(int64_t deadline)
     return now < deadline ? deadline - now : 0;
 }
 
-static bool socket_address(struct sockaddr_un *address)
+static const char *socket_path(void)
 {
-    const char *path = BIXETHOMI_SOCKET_PATH;
-
 #ifdef BIXETHOMI_TEST_BUILD
     /* Nothing, where the program has more rights than who started it. */
     const char *other = secure_getenv("BIXETHOMI_SOCKET");
 
     if (other != NULL)
-        path = other;
+        return other;
 #endif
+    return BIXETHOMI_SOCKET_PATH;
+}
+
+/* The administrator's socket, or with the suffix the public one. */
+static bool socket_address(struct sockaddr_un *address, const char *suffix)
+{
+    const char *path = socket_path();
+
     memset(address, 0, sizeof *address);
     address->sun_family = AF_UNIX;
-    if (strlen(path) >= sizeof address->sun_path)
+    if (strlen(path) + strlen(suffix) >= sizeof address->sun_path)
         return false;
     strcpy(address->sun_path, path);
+    strcat(address->sun_path, suffix);
     return true;
 }
 
@@ -89,13 +98,15 @@ static bool bound_connecting(int descriptor, int64_t left)
     return setsockopt(descriptor, SOL_SOCKET, SO_SNDTIMEO, &bound, sizeof bound) == 0;
 }
 
-static enum exchange_end connect_to_daemon(int descriptor)
+static enum exchange_end connect_to_socket(int descriptor, const char *suffix, int64_t deadline)
 {
-    int64_t deadline = moment_after(BIXETHOMI_CONNECT_SECONDS);
+    int64_t own_deadline = moment_after(BIXETHOMI_CONNECT_SECONDS);
     struct sockaddr_un address;
 
-    if (!socket_address(&address))
+    if (!socket_address(&address, suffix))
         return EXCHANGE_NO_DAEMON;
+    if (own_deadline < deadline)
+        deadline = own_deadline;
     for (;;) {
         int64_t left = time_left(deadline);
 
@@ -110,6 +121,13 @@ static enum exchange_end connect_to_daemon(int descriptor)
     }
 }
 
+static enum exchange_end connect_to_daemon(int descriptor, bool is_of_root, int64_t deadline)
+{
+    if (is_of_root && connect_to_socket(descriptor, "", deadline) == EXCHANGE_WELL)
+        return EXCHANGE_WELL;
+    return connect_to_socket(descriptor, public_suffix, deadline);
+}
+
 /* A lookup that the daemon makes, of a server's name, must not wait for the daemon. */
 static bool is_own_socket(const struct connection *connection)
 {
@@ -121,8 +139,9 @@ static bool is_own_socket(const struct connection *connection)
     return peer.pid == connection->process;
 }
 
-enum exchange_end connection_open(struct connection *connection, pid_t process)
+enum exchange_end connection_open(struct connection *connection, bool is_of_root, int64_t deadline)
 {
+    pid_t process = connection->process;
     int descriptor = above_standard_streams(socket(AF_UNIX, SOCK_STREAM | SOCK_CLOEXEC, 0));
     struct stat status;
     enum exchange_end end;
@@ -134,7 +153,7 @@ enum exchange_end connection_open(struct connection *connection, pid_t process)
         return EXCHANGE_STARVED;
     connection->device = status.st_dev;
     connection->file = status.st_ino;
-    end = connect_to_daemon(descriptor);
+    end = connect_to_daemon(descriptor, is_of_root, deadline);
     return end == EXCHANGE_WELL && is_own_socket(connection) ? EXCHANGE_NO_DAEMON : end;
 }
 

@@ -1,4 +1,4 @@
-/* A connection to the daemon's public socket. Every wait has a bound, no signal is raised by a closed socket, and the
+/* A connection to one of the daemon's two sockets. Every wait has a bound, no signal is raised by a closed socket, and the
  * descriptor is not handed to programs that are started meanwhile. */
 #ifndef BIXETHOMI_CONNECTION_H
 #define BIXETHOMI_CONNECTION_H
@@ -12,6 +12,7 @@ enum exchange_end {
     EXCHANGE_WELL,
     EXCHANGE_NO_DAEMON, /* nobody listens, or the process is the daemon itself */
     EXCHANGE_LATE,      /* a bound has passed */
+    EXCHANGE_PAUSED,    /* nothing was asked: an answer came too late a moment ago */
     EXCHANGE_BROKEN,    /* the daemon ended the connection, or what it sends begins no reply */
     EXCHANGE_STARVED    /* this process, or the system, has no descriptor or no memory to give */
 };
@@ -30,7 +31,9 @@ int64_t moment_now(void);
 /* The moment so many seconds from now. */
 int64_t moment_after(int64_t seconds);
 
-enum exchange_end connection_open(struct connection *connection, pid_t process);
+/* Connects up to the moment `deadline`. Root's processes connect to the administrator's socket, which no other user can
+ * occupy, and to the public one where they cannot reach it. All others connect to the public one. */
+enum exchange_end connection_open(struct connection *connection, bool is_of_root, int64_t deadline);
 
 /* Whether its descriptor is still what it was: a program may close descriptors that are not its own, and open others under
  * their numbers. */

@@ -8,11 +8,13 @@
 #include "ahead.h"
 #include "replies.h"
 
-/* Seconds for a whole question. The daemon gives each server 6 seconds for each answer and then takes the next, so several silent
- * servers fit. */
-#ifndef BIXETHOMI_QUESTION_SECONDS
-#define BIXETHOMI_QUESTION_SECONDS 60
+/* Seconds without a question after an answer that did not come in time. */
+#ifndef BIXETHOMI_PAUSE_SECONDS
+#define BIXETHOMI_PAUSE_SECONDS 10
 #endif
+
+/* The moment up to which this process asks nothing. */
+static _Atomic int64_t pause_end;
 
 /* What this process keeps between two questions: one connection, so that other threads make their own meanwhile. A child that was
  * forked has its parent's, and uses nothing of it. */
@@ -20,6 +22,14 @@ static struct conversation kept;
 
 /* The process of the thread that uses it now; 0 where none does. */
 static _Atomic pid_t keeper;
+
+/* Passes on how a part of a question ended. */
+static enum exchange_end pause_where_late(enum exchange_end end)
+{
+    if (end == EXCHANGE_LATE)
+        atomic_store(&pause_end, moment_after(BIXETHOMI_PAUSE_SECONDS));
+    return end;
+}
 
 static void end_conversation(struct conversation *conversation)
 {
@@ -202,26 +212,33 @@ static enum exchange_end ask_over(struct exchange *exchange, const struct reques
 
     if (known != NULL && (size_t)(known - recent->questions) < recent->answered)
         return give(exchange, known);
+    if (moment_now() < atomic_load(&pause_end))
+        return EXCHANGE_PAUSED;
+    /* One that was made before the process became root's is at the public socket. */
+    if (exchange->is_of_root && has_connection(conversation))
+        end_conversation(conversation);
     if (has_connection(conversation)) {
         end = ask_kept(exchange, request, known);
         if (end != EXCHANGE_BROKEN)
             return end;
         end_conversation(conversation);
     }
-    end = connection_open(&conversation->connection, conversation->connection.process);
+    end = connection_open(&conversation->connection, exchange->is_of_root, exchange->deadline);
     return end == EXCHANGE_WELL ? ask(exchange, request) : end;
 }
 
-enum exchange_end exchange_open(struct exchange *exchange, enum connection_use use, const struct request *request)
+enum exchange_end exchange_open(struct exchange *exchange, enum connection_use use, const struct request *request,
+                                int64_t deadline)
 {
     pid_t process = getpid();
 
     exchange->use = use;
+    exchange->is_of_root = geteuid() == 0;
     exchange->question = NULL;
     exchange->front_length = 0;
     exchange->length = 0;
     exchange->received = 0;
-    exchange->deadline = moment_after(BIXETHOMI_QUESTION_SECONDS);
+    exchange->deadline = deadline;
     exchange->now = recent_now();
     pthread_setcancelstate(PTHREAD_CANCEL_DISABLE, &exchange->cancel_state);
     exchange->conversation = use == CONNECTION_KEPT ? take_kept(process) : NULL;
@@ -231,7 +248,7 @@ enum exchange_end exchange_open(struct exchange *exchange, enum connection_use u
         recent_forget(&exchange->own.recent);
     }
     recent_age(&exchange->conversation->recent, exchange->now);
-    return ask_over(exchange, request);
+    return pause_where_late(ask_over(exchange, request));
 }
 
 enum exchange_end exchange_take(struct exchange *exchange, char *piece, size_t room, size_t *taken)
@@ -250,7 +267,7 @@ enum exchange_end exchange_take(struct exchange *exchange, char *piece, size_t r
     }
     if (end == EXCHANGE_WELL)
         exchange->received += *taken;
-    return end;
+    return pause_where_late(end);
 }
 
 enum exchange_end exchange_fill(struct exchange *exchange, char *text, size_t wanted)
@@ -296,7 +313,7 @@ void exchange_close(struct exchange *exchange)
 
     if (exchange->question != NULL && exchange->received == exchange->length)
         exchange->question->is_given = true;
-    if (conversation != &kept || !is_whole(exchange))
+    if (conversation != &kept || exchange->is_of_root || !is_whole(exchange))
         end_conversation(conversation);
     else
         ask_ahead(exchange);

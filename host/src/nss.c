@@ -10,6 +10,7 @@
 
 #include "exchange.h"
 #include "frames.h"
+#include "limits.h"
 #include "replies.h"
 
 enum nss_status _nss_bixethomi_getpwnam_r(const char *name, struct passwd *result, char *buffer, size_t room, int *error);
@@ -41,6 +42,7 @@ static struct outcome outcome_of_end(enum exchange_end end)
     case EXCHANGE_WELL:
         return success;
     case EXCHANGE_NO_DAEMON:
+    case EXCHANGE_PAUSED:
         return unavailable;
     case EXCHANGE_LATE:
     case EXCHANGE_STARVED:
@@ -95,6 +97,11 @@ static bool is_asked(const char *name)
     return is_account_name(name) && strcmp(name, "root") != 0;
 }
 
+static struct outcome open_exchange(struct exchange *exchange, const struct request *request)
+{
+    return outcome_of_end(exchange_open(exchange, CONNECTION_KEPT, request, moment_after(BIXETHOMI_LOOKUP_SECONDS)));
+}
+
 /* Asks for a record and has its whole reply in the buffer; the line of a found one begins at `line`
  * and ends at `length`. */
 static struct outcome ask_record(const struct request *request, char *buffer, size_t room, size_t *line, size_t *length)
@@ -103,7 +110,7 @@ static struct outcome ask_record(const struct request *request, char *buffer, si
     struct lookup_reply reply;
     struct outcome outcome;
 
-    outcome = outcome_of_end(exchange_open(&exchange, CONNECTION_KEPT, request));
+    outcome = open_exchange(&exchange, request);
     if (outcome.status == NSS_STATUS_SUCCESS && exchange.length > room)
         outcome = buffer_too_small;
     if (outcome.status == NSS_STATUS_SUCCESS)
@@ -139,9 +146,16 @@ static struct outcome ask_group(const struct request *request, struct group *gro
     return outcome;
 }
 
+/* A user has to have both numbers within the limits, as sssd has it. */
+static bool is_given_user(const struct limits *limits, const struct passwd *user)
+{
+    return is_within(limits, user->pw_uid) && is_within(limits, user->pw_gid);
+}
+
 enum nss_status _nss_bixethomi_getpwnam_r(const char *name, struct passwd *result, char *buffer, size_t room, int *error)
 {
     int saved = errno;
+    struct limits limits = read_limits();
     struct request request;
     struct passwd user = { .pw_name = NULL };
     struct outcome outcome = not_found;
@@ -150,6 +164,8 @@ enum nss_status _nss_bixethomi_getpwnam_r(const char *name, struct passwd *resul
         outcome = ask_user(&request, &user, buffer, room);
     if (outcome.status == NSS_STATUS_SUCCESS && strcmp(user.pw_name, name) != 0)
         outcome = faulty;
+    if (outcome.status == NSS_STATUS_SUCCESS && !is_given_user(&limits, &user))
+        outcome = not_found;
     if (outcome.status == NSS_STATUS_SUCCESS)
         *result = user;
     errno = saved;
@@ -159,14 +175,17 @@ enum nss_status _nss_bixethomi_getpwnam_r(const char *name, struct passwd *resul
 enum nss_status _nss_bixethomi_getpwuid_r(uid_t uid, struct passwd *result, char *buffer, size_t room, int *error)
 {
     int saved = errno;
+    struct limits limits = read_limits();
     struct request request;
     struct passwd user = { .pw_name = NULL };
     struct outcome outcome = not_found;
 
-    if (is_account_number(uid) && request_by_number(&request, COMMAND_UID, uid))
+    if (is_within(&limits, uid) && request_by_number(&request, COMMAND_UID, uid))
         outcome = ask_user(&request, &user, buffer, room);
     if (outcome.status == NSS_STATUS_SUCCESS && user.pw_uid != uid)
         outcome = faulty;
+    if (outcome.status == NSS_STATUS_SUCCESS && !is_given_user(&limits, &user))
+        outcome = not_found;
     if (outcome.status == NSS_STATUS_SUCCESS)
         *result = user;
     errno = saved;
@@ -176,6 +195,7 @@ enum nss_status _nss_bixethomi_getpwuid_r(uid_t uid, struct passwd *result, char
 enum nss_status _nss_bixethomi_getgrnam_r(const char *name, struct group *result, char *buffer, size_t room, int *error)
 {
     int saved = errno;
+    struct limits limits = read_limits();
     struct request request;
     struct group group = { .gr_name = NULL };
     struct outcome outcome = not_found;
@@ -184,6 +204,8 @@ enum nss_status _nss_bixethomi_getgrnam_r(const char *name, struct group *result
         outcome = ask_group(&request, &group, buffer, room);
     if (outcome.status == NSS_STATUS_SUCCESS && strcmp(group.gr_name, name) != 0)
         outcome = faulty;
+    if (outcome.status == NSS_STATUS_SUCCESS && !is_within(&limits, group.gr_gid))
+        outcome = not_found;
     if (outcome.status == NSS_STATUS_SUCCESS)
         *result = group;
     errno = saved;
@@ -193,11 +215,12 @@ enum nss_status _nss_bixethomi_getgrnam_r(const char *name, struct group *result
 enum nss_status _nss_bixethomi_getgrgid_r(gid_t gid, struct group *result, char *buffer, size_t room, int *error)
 {
     int saved = errno;
+    struct limits limits = read_limits();
     struct request request;
     struct group group = { .gr_name = NULL };
     struct outcome outcome = not_found;
 
-    if (is_account_number(gid) && request_by_number(&request, COMMAND_GID, gid))
+    if (is_within(&limits, gid) && request_by_number(&request, COMMAND_GID, gid))
         outcome = ask_group(&request, &group, buffer, room);
     if (outcome.status == NSS_STATUS_SUCCESS && group.gr_gid != gid)
         outcome = faulty;
@@ -215,6 +238,7 @@ struct gid_list {
     long count;
     long limit;
     gid_t skipped;
+    const struct limits *limits;
     bool is_full;
 };
 
@@ -238,10 +262,10 @@ static struct outcome grow(struct gid_list *list)
     return success;
 }
 
-/* A directory puts no user into root's group. */
+/* A directory puts no user into a group whose number is the host's own matter. */
 static struct outcome add_gid(struct gid_list *list, gid_t gid)
 {
-    if (list->is_full || gid == list->skipped || !is_account_number(gid))
+    if (list->is_full || gid == list->skipped || !is_within(list->limits, gid))
         return success;
     if (list->count >= *list->size) {
         struct outcome outcome = grow(list);
@@ -313,19 +337,29 @@ static struct outcome read_gids(struct exchange *exchange, char *piece, size_t r
     return outcome.status == NSS_STATUS_SUCCESS ? add_last_gid(list, &reader) : outcome;
 }
 
+/* A local user is the host's own: the directory's user of the same name is another one. So nothing about local users waits
+ * for the daemon. */
+static bool has_groups_here(const char *name, const struct limits *limits)
+{
+    return is_asked(name) && (limits->gives_groups_to_local_users || !is_local_user(name));
+}
+
 enum nss_status _nss_bixethomi_initgroups_dyn(const char *name, gid_t skipped, long *start, long *size, gid_t **gids,
                                               long limit, int *error)
 {
     int saved = errno;
+    struct limits limits = read_limits();
     struct request request;
     struct outcome outcome = not_found;
 
-    if (is_asked(name) && request_by_name(&request, COMMAND_GROUPS_OF_USER, name)) {
-        struct gid_list list = { .gids = gids, .size = size, .count = *start, .limit = limit, .skipped = skipped };
+    if (has_groups_here(name, &limits) && request_by_name(&request, COMMAND_GROUPS_OF_USER, name)) {
+        struct gid_list list = {
+            .gids = gids, .size = size, .count = *start, .limit = limit, .skipped = skipped, .limits = &limits
+        };
         struct exchange exchange;
         char piece[1024];
 
-        outcome = outcome_of_end(exchange_open(&exchange, CONNECTION_KEPT, &request));
+        outcome = open_exchange(&exchange, &request);
         if (outcome.status == NSS_STATUS_SUCCESS)
             outcome = read_gids(&exchange, piece, sizeof piece, name, &list);
         exchange_close(&exchange);

@@ -230,7 +230,7 @@ bool is_account_name(const char *name)
 {
     size_t length = strnlen(name, 256);
 
-    if (length < 1 || length > 255)
+    if (length < 1 || length > 255 || strspn(name, "0123456789") == length)
         return false;
     for (const char *byte = name; *byte != '\0'; byte++)
         if ((unsigned char)*byte < 0x20 || *byte == 0x7f || *byte == ':')

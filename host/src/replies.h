@@ -53,7 +53,8 @@ enum reading {
 };
 
 /* Whether a host can have a user or a group of this name: 1 to 255 bytes, no control bytes and no
- * colon, as passwd(5) has them, so that no line printed for one reads as another's. */
+ * colon, as passwd(5) has them, so that no line printed for one reads as another's; and not digits
+ * alone, which programs such as chown(1) would take for a number. */
 bool is_account_name(const char *name);
 
 /* Whether such a user can also be told as a member of a group: group(5) parts members by commas. */

@@ -8,6 +8,7 @@
  *   -m        meddles between two answers: a child asks too, then what was opened since is closed, and its
  *             numbers are others'
  *   -p MS     waits so long between two answers
+ *   -d        the answers may differ: prints each on a line
  *   -t COUNT  asks in so many threads
  *   -s        a signal each millisecond, whose handler lets no call go on
  *   -c        starts a program while the answer is awaited, and prints the sockets that it was given
@@ -15,7 +16,8 @@
  *   -x        cancels the asking threads meanwhile, which end their question all the same
  *   -o        listens itself at the socket that BIXETHOMI_SOCKET names
  *
- * The exit status is 0 where the answers are the same and no descriptor was left open, else 1. */
+ * The exit status is 0 where the answers are the same and no descriptor was left open, else 1. What hangs is ended by a
+ * signal after two minutes. */
 #include <dlfcn.h>
 #include <errno.h>
 #include <fcntl.h>
@@ -50,6 +52,7 @@ struct question {
     size_t room;
     long count;
     bool has_meddler;
+    bool may_differ;
     struct timespec pause;
     char *answer; /* ANSWER bytes */
     bool differs;
@@ -201,6 +204,7 @@ static enum nss_status ask_record(const struct question *question, char *buffer,
 static void ask_once(const struct question *question, char *answer)
 {
     char record[ANSWER] = "";
+    char *end;
     enum nss_status status;
     int error = 0;
 
@@ -222,7 +226,10 @@ static void ask_once(const struct question *question, char *answer)
             error = 0;
         }
     }
-    snprintf(answer, ANSWER, "%s %s%s", status_name(status), status == NSS_STATUS_SUCCESS ? "-" : strerrorname_np(error), record);
+    end = stpcpy(stpcpy(stpcpy(answer, status_name(status)), " "), status == NSS_STATUS_SUCCESS ? "-" : strerrorname_np(error));
+    if (strlen(record) >= (size_t)(answer + ANSWER - end))
+        fail("the answer is too long to be shown");
+    strcpy(end, record);
 }
 
 /* A child's answer has to be the same, and takes nothing from its parent's connection. */
@@ -264,6 +271,8 @@ static void *ask_often(void *given)
     if (answer == NULL)
         fail("no memory");
     ask_once(question, question->answer);
+    if (question->may_differ)
+        printf("%s\n", question->answer);
     for (long i = 1; i < question->count; i++) {
         if (question->has_meddler && !asks_in_child(question, answer))
             question->differs = true;
@@ -271,7 +280,9 @@ static void *ask_often(void *given)
             take_numbers();
         nanosleep(&question->pause, NULL);
         ask_once(question, answer);
-        if (strcmp(answer, question->answer) != 0)
+        if (question->may_differ)
+            printf("%s\n", answer);
+        else if (strcmp(answer, question->answer) != 0)
             question->differs = true;
     }
     free(answer);
@@ -349,7 +360,7 @@ int main(int count, char **words)
     int before;
     bool is_well = true;
 
-    for (int option; (option = getopt(count, words, "r:n:t:p:mscfxo")) != -1;) {
+    for (int option; (option = getopt(count, words, "r:n:t:p:mdscfxo")) != -1;) {
         if (option == 'r')
             question.room = strtoul(optarg, NULL, 10);
         else if (option == 'n')
@@ -358,6 +369,8 @@ int main(int count, char **words)
             threads = (int)strtol(optarg, NULL, 10);
         else if (option == 'm')
             question.has_meddler = true;
+        else if (option == 'd')
+            question.may_differ = true;
         else if (option == 'p')
             question.pause = (struct timespec){ .tv_sec = atol(optarg) / 1000, .tv_nsec = atol(optarg) % 1000 * 1000000 };
         else if (option == 's')
@@ -394,6 +407,8 @@ int main(int count, char **words)
     }
     if (has_alarms)
         start_alarms();
+    else
+        alarm(120);
     if (starts_program)
         pthread_create(&program, NULL, start_program, NULL);
     for (int i = 0; i < threads; i++) {
@@ -421,7 +436,8 @@ int main(int count, char **words)
     /* What the module keeps goes with it. */
     if (dlclose(module) != 0 || open_descriptors() != before - (is_without_streams ? 1 : 0))
         is_well = false;
-    dprintf(output, "%s%s\n", questions[0].answer, is_well ? "" : " (answers differ, or a descriptor is left)");
+    if (!question.may_differ || !is_well)
+        dprintf(output, "%s%s\n", questions[0].answer, is_well ? "" : " (answers differ, or a descriptor is left)");
     for (int i = 0; i < threads; i++)
         free(questions[i].answer);
     free(questions);

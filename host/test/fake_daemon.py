@@ -2,13 +2,13 @@
 """A stand-in for the daemon, for tests of the modules: the same frames and reply texts over the same two
 sockets, answered from the directory of the tests, and every way in which a reply may go wrong.
 
-    fake_daemon.py SOCKET [--behave BEHAVIOUR] [--attempts N] [--delay MINUTES] [--expiration DAYS] [--log FILE]
+    fake_daemon.py SOCKET [--behave BEHAVIOUR] [--behave-public BEHAVIOUR] [--attempts N] [--delay MINUTES] [--expiration DAYS] [--log FILE]
 
 SOCKET takes every command, SOCKET.public those of users. A line `ready` is printed once both listen.
 The administrator's `offline` and `online` begin and end an outage, `stop` ends the process.
 
 A user's or group's name that begins with `!` is a behaviour, for that request alone; --behave sets one
-for every request. Bytes in it may be written as %XX.
+for every request, --behave-public one for those of SOCKET.public. Bytes in it may be written as %XX.
 
     !say TEXT      the text in a whole reply            !cut N      N bytes of the reply, then the end
     !raw BYTES     the bytes alone, then the end        !slow MS    a byte of the reply each MS milliseconds
@@ -17,6 +17,7 @@ for every request. Bytes in it may be written as %XX.
     !over          one byte more than the length says   !under      one byte less, and no end
     !mutate SEED   the reply with some of its bytes changed
     !rule N        a rule that grants, whose name has N bytes
+    !numbers A B   a user of uid A and gid B, a group of gid A, or a user's groups A and B
 """
 import argparse
 import os
@@ -290,6 +291,16 @@ def send_reply(connection, text, behaviour):
     return True
 
 
+def numbered(request):
+    """The reply to a question for a name that says its own numbers."""
+    name, first, second = (request[1], *request[1].split(" ")[1:])
+    if request[0] == 1:
+        return b"found 3 %s:*:%s:%s::/home:/bin/sh" % (field(name), first.encode(), second.encode())
+    if request[0] == 3:
+        return b"found 3 %s:*:%s:" % (field(name), first.encode())
+    return b"found 3 %s:%s,%s" % (field(name), first.encode(), second.encode())
+
+
 def take(connection, count):
     have = b""
     while len(have) < count:
@@ -320,6 +331,8 @@ def serve(daemon, connection, is_public, behave):
                 text = b"none 1" if named else daemon.reply_to(request)
                 if named:
                     daemon.note(request)
+                if named and request[1].startswith("!numbers ") and request[0] in (1, 3, 5):
+                    text = numbered(request)
                 if not send_reply(connection, text, request[1][1:] if named else behave):
                     return
                 if request[0] == 35:
@@ -354,6 +367,7 @@ def main():
     parser = argparse.ArgumentParser()
     parser.add_argument("socket")
     parser.add_argument("--behave", default="")
+    parser.add_argument("--behave-public")
     parser.add_argument("--attempts", type=int, default=0)
     parser.add_argument("--delay", type=int, default=5)
     parser.add_argument("--expiration", type=int, default=0)
@@ -361,11 +375,12 @@ def main():
     words = parser.parse_args()
     daemon = Daemon(words)
     behave = words.behave.lstrip("!")
+    behave_public = behave if words.behave_public is None else words.behave_public.lstrip("!")
     private = listen(words.socket, 0o600)
     public = listen(words.socket + ".public", 0o666)
     threading.Thread(target=accept, args=(daemon, private, False, behave), daemon=True).start()
     print("ready", flush=True)
-    accept(daemon, public, True, behave)
+    accept(daemon, public, True, behave_public)
 
 
 if __name__ == "__main__":

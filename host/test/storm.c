@@ -1,8 +1,8 @@
-/* storm mutated COUNT SEED: asks the NSS calls, linked into this program with a sanitizer, COUNT times
+/* storm mutated SECONDS SEED: asks the NSS calls, linked into this program with a sanitizer, for so long
  * over a socket whose other end answers with mutated replies, also those that were asked ahead.
  * storm honest COUNT: eight threads ask COUNT times each, and every answer has to be the right one.
  *
- * The other end is a child of this program; the socket is named by BIXETHOMI_SOCKET. */
+ * The other end is a child of this program; the socket is that which BIXETHOMI_SOCKET names, with .public behind it. */
 #include <errno.h>
 #include <grp.h>
 #include <nss.h>
@@ -16,6 +16,7 @@
 #include <sys/socket.h>
 #include <sys/un.h>
 #include <sys/wait.h>
+#include <time.h>
 #include <unistd.h>
 
 #include "mutate.h"
@@ -238,7 +239,8 @@ static void *ask_honest(void *given)
 
 int main(int count, char **words)
 {
-    const char *path = getenv("BIXETHOMI_SOCKET");
+    const char *named = getenv("BIXETHOMI_SOCKET");
+    char path[256];
     bool is_honest = count > 1 && strcmp(words[1], "honest") == 0;
     unsigned long turns = count > 2 ? strtoul(words[2], NULL, 10) : 1000;
     uint64_t seed = count > 3 ? strtoull(words[3], NULL, 10) : 1;
@@ -247,7 +249,10 @@ int main(int count, char **words)
     pid_t child;
     int listener;
 
-    demand(path != NULL && seed != 0, "BIXETHOMI_SOCKET and a seed that is not 0");
+    demand(named != NULL && seed != 0, "BIXETHOMI_SOCKET and a seed that is not 0");
+    snprintf(path, sizeof path, "%s.public", named);
+    /* What hangs ends as a fault. */
+    alarm(500);
     listener = listen_at(path);
     child = fork();
     demand(child >= 0, "a child");
@@ -277,7 +282,9 @@ int main(int count, char **words)
             pthread_join(threads[i], NULL);
         printf("8 threads asked %lu times each\n", turns * 3);
     } else {
-        for (unsigned long i = 0; i < turns; i++)
+        time_t end = time(NULL) + (time_t)turns;
+
+        for (turns = 0; turns % 64 != 0 || time(NULL) < end; turns++)
             ask_mutated(&state, counts);
         printf("%lu mutated replies: %lu found, %lu not found, %lu unavailable, %lu try again\n", turns, counts[0],
                counts[1], counts[2], counts[3]);
