@@ -105,7 +105,11 @@ class Host:
             out.write("\n".join(lines))
 
     def __enter__(self):
-        self.starts()
+        try:
+            self.starts()
+        except BaseException:
+            self.killed()
+            raise
         return self
 
     def __exit__(self, *_):
