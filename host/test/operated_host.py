@@ -17,7 +17,7 @@ from trial import HOST
 
 TOOLS = os.path.join(HOST, "tools")
 # Seconds within which the daemon has written its log and its status: many times of what it needs.
-DEADLINE = 90
+DEADLINE = 300
 
 
 def holds_within(condition, seconds=DEADLINE):
