@@ -17,7 +17,7 @@ from trial import HOST
 
 TOOLS = os.path.join(HOST, "tools")
 # Seconds within which the daemon has written its log and its status: many times of what it needs.
-DEADLINE = 90
+DEADLINE = 300
 
 
 def holds_within(condition, seconds=DEADLINE):
@@ -105,7 +105,11 @@ class Host:
             out.write("\n".join(lines))
 
     def __enter__(self):
-        self.starts()
+        try:
+            self.starts()
+        except BaseException:
+            self.killed()
+            raise
         return self
 
     def __exit__(self, *_):
