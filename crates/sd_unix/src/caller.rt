@@ -262,16 +262,20 @@ impl Caller {
         }
     }
 
-    /// Writes what there is room for of an answer, where none waits; tells how many bytes.
-    fn write_first(&mut self, bytes: &[u8]) -> io::Result<usize>
-        ensures { WritesAtMost result bytes.now }
+    /// Writes what there is room for of an answer, where none waits; tells how many bytes. To a client that is gone, all go.
+    fn write_first(&mut self, bytes: &[u8]) -> usize
+        ensures { result ≤ length bytes.now }
     {
         if self.is_late || !self.reply.is_empty() {
-            return Ok(0);
+            return 0;
         }
         match write_now(&self.stream, bytes) {
-            Err(error) if error.kind() == ErrorKind::WouldBlock => Ok(0),
-            written => written,
+            Ok(count) => count,
+            Err(error) if error.kind() == ErrorKind::WouldBlock => 0,
+            Err(_) => {
+                self.is_closed = true;
+                bytes.len()
+            }
         }
     }
 
@@ -292,7 +296,7 @@ impl Caller {
         ensures { WritesAtMost result bytes.now }
     {
         self.note_guess(bytes);
-        let written = self.write_first(bytes)?;
+        let written = self.write_first(bytes);
         match self.reply.add(&bytes[written..]) {
             Ok(()) => Ok(bytes.len()),
             Err(Memory) => Err(io::Error::from(ErrorKind::OutOfMemory)),

@@ -88,6 +88,9 @@ fn hear_frame(hall: &Hall, caller: &mut Caller, frames: u32) -> io::Result<Heard
 
 /// Looks for a whole frame, of a client of whom so many were served in turn. While a reply is not taken whole, none is looked for.
 fn hear(hall: &Hall, caller: &mut Caller, frames: u32, buf: &mut [u8]) -> io::Result<Heard> {
+    if caller.is_closed {
+        return Ok(Heard::Gone);
+    }
     if !caller.reply.is_empty() {
         return Ok(Heard::Waits);
     }
@@ -250,8 +253,8 @@ impl<'r, R: Wait + Clock + Alloc<A = Global>> Source for ClientSource<'r, R> {
     }
 }
 
-/// What a client is sent: what its socket has room for at once, and the rest once it has. A put fails where the client is gone. It
-/// tells no content.
+/// What a client is sent: what its socket has room for at once, and the rest once it has. A put fails where no
+/// memory is left, and what a client is sent that is gone is lost. It tells no content.
 #[derive(Drop)]
 pub struct ClientSink<'r, R> {
     rt: &'r R,

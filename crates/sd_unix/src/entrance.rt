@@ -316,7 +316,7 @@ impl<'r, R: Files + Net + Clock + Wait + Eprint + Alloc<A = Global>> Entrance<'r
     /// Looks at all who wait; for no longer than at once, where a client is there to be served.
     fn attend_all(&mut self) -> io::Result<()> {
         self.answer_doors();
-        let has_client = self.floor.can_serve();
+        let has_client = self.floor.hall.can_serve();
         self.look(has_client)?;
         self.floor.let_back(self.rt);
         self.floor.serve_logins(self.rt);

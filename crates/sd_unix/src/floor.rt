@@ -2,7 +2,7 @@
 use crate::caller::{Caller, Want};
 use crate::frames::Visitor;
 use crate::hall::Hall;
-use crate::line::Line;
+use crate::line::{Line, MOST_IN_LINE};
 use crate::lobby::{Guest, Lobby, MOST_GUESTS, Stage};
 use mio::unix::SourceFd;
 use mio::{Interest, Registry, Token};
@@ -17,7 +17,7 @@ use std::time::Clock;
 
 /// The most bytes of replies that are kept for clients that do not take them.
 const MOST_REPLY_BYTES: usize = 64 * 1024 * 1024;
-/// How many clients are let in, or let back, or looked at, before the others have their turn.
+/// How many logins are tried, and how many replies to wrong passwords sent, before the others have their turn.
 const MOST_AT_ONCE: usize = 64;
 /// How long the reply to a wrong password waits, in milliseconds.
 const DELAY_MILLIS: u64 = 1000;
@@ -222,7 +222,7 @@ impl Floor {
 
     /// Lets in who was served.
     pub fn let_back<R: Wait + Clock>(&mut self, rt: &R) {
-        for _ in 0..MOST_AT_ONCE {
+        for _ in 0..MOST_IN_LINE {
             match self.hall.take_back(rt) {
                 Some(caller) => self.settle(rt, caller),
                 None => return,
@@ -315,11 +315,6 @@ impl Floor {
     /// Whether nobody is in the lobby.
     pub fn is_lobby_empty(&self) -> bool {
         self.lobby.is_empty()
-    }
-
-    /// Whether a client waits with a whole frame, and a place is free for one.
-    pub fn can_serve(&self) -> bool {
-        self.hall.waiting() > 0 && self.hall.has_place(Visitor::Anyone)
     }
 
     /// The next client to serve, where a place is free for it: an administrator's first.

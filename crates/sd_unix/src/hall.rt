@@ -49,17 +49,14 @@ impl Lines {
             Visitor::Anyone => self.public.next(),
         }
     }
-
-    fn len(&self) -> usize {
-        self.administrators.len().saturating_add(self.public.len())
-    }
 }
 
 /// The clients that no thread serves but those in the lobby, the places of those that are served, and the door for every user.
 pub struct Hall {
     lines: Mutex<Lines>,
-    /// How many wait with a whole frame.
-    waiting: AtomicUsize,
+    /// How many wait with a whole frame, of each kind.
+    administrators: AtomicUsize,
+    public: AtomicUsize,
     /// The clients that go from a session to the lobby.
     back: Mutex<Line<Caller>>,
     waker: Waker,
@@ -77,7 +74,8 @@ impl Drop for Hall {
     fn drop(self) {
         let Hall {
             lines: _,
-            waiting: _,
+            administrators: _,
+            public: _,
             back: _,
             waker: _,
             door: _,
@@ -133,7 +131,8 @@ impl Hall {
         let opened = Instant::now(clock)?;
         Ok(Hall {
             lines: Mutex::new(lines),
-            waiting: AtomicUsize::new(0),
+            administrators: AtomicUsize::new(0),
+            public: AtomicUsize::new(0),
             back: Mutex::new(back),
             waker: Waker::new(registry, token)?,
             door,
@@ -185,7 +184,18 @@ impl Hall {
 
     /// How many wait with a whole frame.
     pub fn waiting(&self) -> usize {
-        self.waiting.load(Ordering::SeqCst)
+        let administrators = self.administrators.load(Ordering::SeqCst);
+        administrators.saturating_add(self.public.load(Ordering::SeqCst))
+    }
+
+    /// Whether a client waits with a whole frame for which a place is free.
+    pub fn can_serve(&self) -> bool {
+        if self.administrators.load(Ordering::SeqCst) > 0
+            && self.has_place(Visitor::Administrator)
+        {
+            return true;
+        }
+        self.public.load(Ordering::SeqCst) > 0 && self.has_place(Visitor::Anyone)
     }
 
     /// How many are served.
@@ -194,7 +204,9 @@ impl Hall {
     }
 
     fn note_line(&self, lines: &Lines) {
-        self.waiting.store(lines.len(), Ordering::SeqCst);
+        self.administrators
+            .store(lines.administrators.len(), Ordering::SeqCst);
+        self.public.store(lines.public.len(), Ordering::SeqCst);
     }
 
     /// Puts a client with a whole frame behind all others; gives who has to leave for it.
