@@ -85,9 +85,18 @@ fn play_bytes(rt: &HostRuntime, alloc: Global) -> io::Result<()> {
     let mut buf = [0u8; 16];
     let given = bytes.give(&mut buf, 6);
     println!(rt; "given {given}, left {}", bytes.len())?;
-    println!(rt; "a reserved command of anyone: {}", progress_name(Visitor::Anyone, &[0, 0, 0, 1, 35]))?;
-    println!(rt; "of the administrator: {}", progress_name(Visitor::Administrator, &[0, 0, 0, 1, 35]))?;
-    println!(rt; "a length of 65537: {}", progress_name(Visitor::Administrator, &[0, 1, 0, 1]))?;
+    println!(rt;
+        "a reserved command of anyone: {}",
+        progress_name(Visitor::Anyone, &[0, 0, 0, 1, 35])
+    )?;
+    println!(rt;
+        "of the administrator: {}",
+        progress_name(Visitor::Administrator, &[0, 0, 0, 1, 35])
+    )?;
+    println!(rt;
+        "a length of 65537: {}",
+        progress_name(Visitor::Administrator, &[0, 1, 0, 1])
+    )?;
     Ok(())
 }
 
