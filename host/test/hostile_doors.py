@@ -36,9 +36,11 @@ def raise_limits(count):
 class Held:
     """So many connections, each in a state of its kind. A connection that ends is made anew, a hundred a second at most."""
 
+    AGAIN = 100
+
     def __init__(self, place, count):
         self.place, self.streams, self.count = place, {}, count
-        self.poll = select.epoll()
+        self.poll, self.began, self.made = select.epoll(), time.monotonic(), 0
 
     def connect(self):
         stream = socket.socket(socket.AF_UNIX)
@@ -47,7 +49,7 @@ class Held:
             stream.connect(self.place)
         except OSError as fault:
             stream.close()
-            if fault.errno not in (errno.EAGAIN, errno.ECONNREFUSED, errno.EMFILE, errno.ENFILE):
+            if fault.errno not in (errno.EAGAIN, errno.ECONNREFUSED, errno.ENOENT, errno.EMFILE, errno.ENFILE):
                 raise
             return None
         self.streams[stream.fileno()] = stream
@@ -55,10 +57,12 @@ class Held:
         return stream
 
     def fill(self, greeting):
-        for _ in range(min(100, self.count - len(self.streams))):
+        may_make = self.count + int(self.AGAIN * (time.monotonic() - self.began)) - self.made
+        for _ in range(min(100, self.count - len(self.streams), may_make)):
             stream = self.connect()
             if stream is None:
                 return
+            self.made += 1
             self.send(stream, greeting)
 
     def send(self, stream, data):
