@@ -18,15 +18,18 @@ use Rattle.sd_dial.specs.declared.searched.Searched.{Searched}
 use Rattle.sd_dial.specs.declared.searched.Searched.TheVariants as searches
 use Rattle.sd_client.specs.declared.step.Request.TheVariants as requests
 use Rattle.sd_client.specs.Deciding.{Decision, decided}
-use Rattle.sd_client.specs.Talk.{Talk, IsSearched, IsUnsearched, IsBound, IsUnbound, bind_message, unbind_message, failure_by_search}
+use Rattle.sd_client.specs.Talk.{Talk, IsSearched, IsUnsearched, IsBound, IsUnbound, bind_message, unbind_message, failure_by_search, failure_by_bind}
 use Rattle.sd_asking.specs.Settled.{IsSettled}
 use Rattle.sd_asking.specs.Binding.{told_bind, IsToldBind}
 use Rattle.sd_fetch.specs.Exchanging.{Telling, Exchange, Went, Goes, Gave, AllGave, IsLast, EndsBy, FailedBy, request_of}
 use Rattle.sd_fetch.specs.Looked.{Looked, BeginsBy, Answers}
 use Rattle.sd_fetch.specs.Told.{IsToldLookup, searches_of, first_failure}
 use Rattle.sd_fetch.specs.Lookup.{looked_up}
-use Rattle.sd_engine.specs.Binds.{IsUnsentBind, BindsOver}
-use Rattle.sd_engine.specs.Lookups.{AreAsked, LooksOver, IsToldFetch, with_messages}
+use Rattle.sd_dial.specs.Operations.{Operation}
+use Rattle.sd_engine.specs.Binds as bind_parts
+use Rattle.sd_engine.specs.Binds.{IsUnsentBind, BindAsked, BindOperations, BindsOver}
+use Rattle.sd_engine.specs.Lookups as lookup_parts
+use Rattle.sd_engine.specs.Lookups.{AreAsked, LookupAsked, LookupOperations, LooksOver, IsToldFetch, MayUnbind, failure_of, or_failure, with_messages}
 use Rattle.sd_engine.specs.Received.{DecidesSearch, DecidesBind}
 use Rattle.sd_engine.proofs.Faults.{rose_earlier, rose_later}
 use Rattle.sd_engine.proofs.Receiving.{Grew, grew_nothing, grew_more, went_grew, searched_on, searched_by, bound_by, unsearched_by}
@@ -120,6 +123,14 @@ pub record Along {L : Type 0} (t : Telling L) (old : Talk L) (exchanges : List E
   pub sent : AreAsked new.received old.next old.at (up_to_failure exchanges) messages new.next
   pub told : t.asked new.link ≡ with_messages (t.asked old.link) messages
   pub grew : Grew old.received new.received (t.received old.link) (t.received new.link)
+  pub fails : new.failed ≡ failure_of (up_to_failure exchanges)
+
+-- how a client has failed by the first search, or by those behind it
+fails_on : (x : Exchange) (xs : List Exchange) (failed : Option Why) → failure_by_search x.searched ≡ None → failed ≡ failure_of (up_to_failure xs) → failed ≡ failure_of (up_to_failure (x ∷ xs))
+fails_on x xs failed fine rest = subst (λ (o : Option Why). failed ≡ or_failure o (failure_of (where_well o (up_to_failure xs)))) (sym fine) rest
+
+fails_here : (x : Exchange) (xs : List Exchange) (failed : Option Why) (why : Why) → failure_by_search x.searched ≡ Some why → failed ≡ Some why → failed ≡ failure_of (up_to_failure (x ∷ xs))
+fails_here x xs failed why fails is = subst (λ (o : Option Why). failed ≡ or_failure o (failure_of (where_well o (up_to_failure xs)))) (sym fails) is
 
 -- a search that did not fail, and those behind it
 on_unsent : {L : Type 0} (t : Telling L) (old between new : Talk L) (x : Exchange) (xs : List Exchange) → Went t old x between → old.failed ≡ None → failure_by_search x.searched ≡ None → between.next ≡ old.next → Along t between xs new → Along t old (x ∷ xs) new
@@ -130,6 +141,7 @@ on_unsent t old between new x xs w well fine same rest = record {
       (between.at, inr (unsearched_by x.searched _ (w.no_reply well same), subst (λ (id : ℕ). AreAsked new.received id between.at (up_to_failure xs) rest.messages new.next) same rest.sent));
   told = rest.told ∙ ap (λ (known : Option (List MessageValue)). with_messages known rest.messages) (w.unsent same).asked;
   grew = grew_more old.received between.received new.received (t.received old.link) (t.received between.link) (t.received new.link) (went_grew t old x between w) rest.grew;
+  fails = fails_on x xs new.failed fine rest.fails;
 }
 
 decides_on : {L : Type 0} (t : Telling L) (old between new : Talk L) (x : Exchange) → Went t old x between → failure_by_search x.searched ≡ None → between.next ≡ old.next + 1 → Grew between.received new.received (t.received between.link) (t.received new.link)
@@ -148,6 +160,7 @@ on_sent t old between new x xs w fine more rest = record {
       rest.told ∙ ap (λ (known : Option (List MessageValue)). with_messages known rest.messages) (w.asked more).asked
       ∙ with_first (t.asked old.link) (request_of old x) rest.messages;
   grew = grew_more old.received between.received new.received (t.received old.link) (t.received between.link) (t.received new.link) (went_grew t old x between w) rest.grew;
+  fails = fails_on x xs new.failed fine rest.fails;
 }
 
 -- a search that failed is the last
@@ -159,22 +172,24 @@ fails_unsent t old new x xs why w well fails same = record {
       (new.at, inr (unsearched_by x.searched _ (w.no_reply well same), (refl, same)));
   told = (w.unsent same).asked ∙ with_none (t.asked old.link);
   grew = went_grew t old x new w;
+  fails = fails_here x xs new.failed why fails (w.fails well ∙ fails);
 }
 
-fails_sent : {L : Type 0} (t : Telling L) (old new : Talk L) (x : Exchange) (xs : List Exchange) (why : Why) → Went t old x new → failure_by_search x.searched ≡ Some why → new.next ≡ old.next + 1 → Along t old (x ∷ xs) new
-fails_sent t old new x xs why w fails more = record {
+fails_sent : {L : Type 0} (t : Telling L) (old new : Talk L) (x : Exchange) (xs : List Exchange) (why : Why) → Went t old x new → old.failed ≡ None → failure_by_search x.searched ≡ Some why → new.next ≡ old.next + 1 → Along t old (x ∷ xs) new
+fails_sent t old new x xs why w well fails more = record {
   messages = request_of old x ∷ [];
   sent =
       subst (λ (o : Option Why). AreAsked new.received old.next old.at (x ∷ where_well o (up_to_failure xs)) (request_of old x ∷ []) new.next) (sym fails)
       (new.at, inl ([], refl, searched_by x.searched (decided requests.Search old.next old.at new.received) new.at _ (w.reply more), (refl, more)));
   told = (w.asked more).asked;
   grew = went_grew t old x new w;
+  fails = fails_here x xs new.failed why fails (w.fails well ∙ fails);
 }
 
 fails_last : {L : Type 0} (t : Telling L) (old new : Talk L) (x : Exchange) (xs : List Exchange) (why : Why) → Went t old x new → old.failed ≡ None → failure_by_search x.searched ≡ Some why → Along t old (x ∷ xs) new
 fails_last t old new x xs why w well fails = elim w.used [
   | inl same ↦ fails_unsent t old new x xs why w well fails same
-  | inr more ↦ fails_sent t old new x xs why w fails more
+  | inr more ↦ fails_sent t old new x xs why w well fails more
 ]
 
 goes_on : {L : Type 0} (t : Telling L) (old between new : Talk L) (x : Exchange) (xs : List Exchange) → Went t old x between → old.failed ≡ None → failure_by_search x.searched ≡ None → Along t between xs new → Along t old (x ∷ xs) new
@@ -195,6 +210,7 @@ along {L} t old [] new well goes = record {
   sent = (refl, sym (ap (λ (talk : Talk L). talk.next) goes));
   told = sym (ap (λ (talk : Talk L). t.asked talk.link) goes) ∙ with_none (t.asked old.link);
   grew = grew_nothing old.received new.received (t.received old.link) (t.received new.link) (sym (ap (λ (talk : Talk L). talk.received) goes)) (sym (ap (λ (talk : Talk L). t.received talk.link) goes));
+  fails = sym (ap (λ (talk : Talk L). talk.failed) goes) ∙ well;
 }
 along {L} t old (x ∷ xs) new well goes = by_failure t old goes.0 new x xs (failure_by_search x.searched) goes.1 goes.2 well refl (λ fine. along t goes.0 xs new fine goes.2)
 
@@ -247,54 +263,67 @@ without_unbind : (known between known' : Option (List MessageValue)) (first : Li
 without_unbind known between known' first e f = f ∙ e ∙ ap (with_messages known) (sym (append-nil first))
 
 -- what an unbind at the end leaves
-abbrev pub Unbinds : Option Why → ℕ → Option (List MessageValue) → Option (List MessageValue) → Type 0
-Unbinds failed next between known' = ((known' ≡ with_message between (unbind_message next)) ⊎ (known' ≡ between))
+abbrev pub Unbinds : Option Why → Type 0 → ℕ → Option (List MessageValue) → Option (List MessageValue) → Type 0
+Unbinds (Some why) rose next between known' = known' ≡ between
+Unbinds None rose next between known' = (known' ≡ with_message between (unbind_message next)) ⊎ (rose × (known' ≡ between))
 
--- what a lookup asked, with what then unbinds
-looked_on : {L : Type 0} (t : Telling L) (config : Config) (key : Key) (before : L) (fetched : Fetched) (talk : Talk L) (line : L) (unbinds : List MessageValue) → (looked : Looked t config key (fresh before) fetched talk) → (a : Along t (fresh before) looked.exchanges talk)
-    → (unbinds ≡ []) ⊎ (unbinds ≡ unbind_message talk.next ∷ []) → t.asked line ≡ with_messages (t.asked before) (a.messages ++ unbinds) → t.received line ≡ t.received talk.link
-    → LooksOver config key fetched (t.asked before) (t.asked line) (t.received before) (t.received line)
-looked_on t config key before fetched talk line unbinds looked a may told same = record {
-  messages = a.messages ++ unbinds;
+-- what was asked, with what then unbinds
+record Unbound (failed : Option Why) (rose : Type 0) (next : ℕ) (known known' : Option (List MessageValue)) (first : List MessageValue) : Type 0 where
+  pub unbinds : List MessageValue
+  pub may : MayUnbind failed rose next unbinds
+  pub told : known' ≡ with_messages known (first ++ unbinds)
+
+unbound_by : (failed : Option Why) (here rose : Type 0) (next : ℕ) (known between known' : Option (List MessageValue)) (first : List MessageValue) → (here → rose) → between ≡ with_messages known first → Unbinds failed here next between known' → Unbound failed rose next known known' first
+unbound_by (Some why) here rose next known between known' first to told same = record { unbinds = []; may = refl; told = without_unbind known between known' first told same }
+unbound_by None here rose next known between known' first to told unbinds = elim unbinds [
+  | inl sent ↦ record { unbinds = unbind_message next ∷ []; may = inl refl; told = with_unbind known between known' first (unbind_message next) told sent }
+  | inr unsent ↦ record { unbinds = []; may = inr (to unsent.0, refl); told = without_unbind known between known' first told unsent.1 }
+]
+
+looked_on : {L : Type 0} (t : Telling L) (config : Config) (key : Key) (before : L) (fetched : Fetched) (talk : Talk L) (line : L) (rose : Type 0) → (looked : Looked t config key (fresh before) fetched talk) → (a : Along t (fresh before) looked.exchanges talk)
+    → Unbound talk.failed rose talk.next (t.asked before) (t.asked line) a.messages → t.received line ≡ t.received talk.link
+    → LooksOver config key fetched rose (t.asked before) (t.asked line) (t.received before) (t.received line)
+looked_on t config key before fetched talk line rose looked a u same = record {
+  messages = a.messages ++ u.unbinds;
   received = talk.received;
   asked = record {
     exchanges = up_to_failure looked.exchanges;
     searches = a.messages;
     next = talk.next;
-    unbinds = unbinds;
+    unbinds = u.unbinds;
     sent = a.sent;
     begins = begins_alike config key fetched looked.exchanges looked.begins;
     ends = ends_alike fetched looked.exchanges looked.ends;
     answers = answers_alike config key fetched looked.exchanges looked.ends looked.answers;
-    unbind = may;
+    unbind = subst (λ (o : Option Why). MayUnbind o rose talk.next u.unbinds) a.fails u.may;
     are = refl;
   };
-  told = told;
+  told = u.told;
   comes = same ∙ a.grew.told ∙ ap (append_known (t.received before)) (sym a.grew.grown);
 }
 
 pub looks_over : {L : Type 0} (t : Telling L) (config : Config) (key : Key) (old : Talk L) (before : L) (fetched : Fetched) (talk : Talk L) (line : L) → old ≡ fresh before → Looked t config key old fetched talk
-    → Unbinds talk.failed talk.next (t.asked talk.link) (t.asked line) → t.received line ≡ t.received talk.link → LooksOver config key fetched (t.asked before) (t.asked line) (t.received before) (t.received line)
+    → Unbinds talk.failed (Rose (t.faults talk.link) (t.faults line)) talk.next (t.asked talk.link) (t.asked line) → t.received line ≡ t.received talk.link
+    → LooksOver config key fetched (Rose (t.faults before) (t.faults line)) (t.asked before) (t.asked line) (t.received before) (t.received line)
 looks_over {L} t config key old before fetched talk line made looked unbinds same =
     let l : Looked t config key (fresh before) fetched talk = subst (λ (o : Talk L). Looked t config key o fetched talk) made looked in
     let a : Along t (fresh before) l.exchanges talk = along t (fresh before) l.exchanges talk refl l.in_order in
-    elim unbinds [
-      | inl unbound ↦ looked_on t config key before fetched talk line (unbind_message talk.next ∷ []) l a (inr refl) (with_unbind (t.asked before) (t.asked talk.link) (t.asked line) a.messages (unbind_message talk.next) a.told unbound) same
-      | inr still ↦ looked_on t config key before fetched talk line [] l a (inl refl) (without_unbind (t.asked before) (t.asked talk.link) (t.asked line) a.messages a.told still) same
-    ]
+    looked_on t config key before fetched talk line (Rose (t.faults before) (t.faults line)) l a
+    (unbound_by talk.failed (Rose (t.faults talk.link) (t.faults line)) (Rose (t.faults before) (t.faults line)) talk.next (t.asked before) (t.asked talk.link) (t.asked line) a.messages
+    (rose_earlier (t.faults before) (t.faults talk.link) (t.faults line) (goes_later t (fresh before) l.exchanges talk l.in_order)) a.told unbinds) same
 
 -- the unbind of a client that ends: one that has failed sends none
 pub unbinds_by : {L : Type 0} (asked : L → Option (List MessageValue)) (talk : Talk L) (line : L) (P Q R : Type 0) → ((talk.failed ≡ None → ⊥) → line ≡ talk.link)
     → (talk.failed ≡ None → (P × (asked line ≡ with_message (asked talk.link) (unbind_message talk.next))) ⊎ (Q × R × (asked line ≡ asked talk.link)))
-    → Unbinds talk.failed talk.next (asked talk.link) (asked line)
+    → Unbinds talk.failed Q talk.next (asked talk.link) (asked line)
 unbinds_by asked talk line P Q R same unbinds = by_failed talk.failed refl
   where
     is_some_why : {failed : Option Why} {why : Why} → failed ≡ Some why → failed ≡ None → ⊥
     is_some_why e f = cc
 
-    by_failed : (failed : Option Why) → talk.failed ≡ failed → Unbinds talk.failed talk.next (asked talk.link) (asked line)
-    by_failed (Some why) f = inr (ap asked (same (is_some_why f)))
-    by_failed None f = elim (unbinds f) [ inl sent ↦ inl sent.1 | inr unsent ↦ inr unsent.2 ]
+    by_failed : (failed : Option Why) → talk.failed ≡ failed → Unbinds failed Q talk.next (asked talk.link) (asked line)
+    by_failed (Some why) f = ap asked (same (is_some_why f))
+    by_failed None f = elim (unbinds f) [ inl sent ↦ inl sent.1 | inr unsent ↦ inr (unsent.0, unsent.2) ]
 
 pub looked_fallen : {L : Type 0} (t : Telling L) (config : Config) (key : Key) (old : Talk L) (before : L) (fetched : Fetched) (talk : Talk L) (line : ℕ) → old ≡ fresh before → Looked t config key old fetched talk → t.faults talk.link ≤ line
     → fetched ≡ fetches.Failed whys.Link → Rose (t.faults before) line
@@ -357,24 +386,15 @@ unsent_bind bounds.Memory rose h = tt
 abbrev BindSent : List ℕ → List ℕ → Bound → List ℕ → List MessageValue → ℕ → Type 0
 BindSent dn password bound received binds next = ((binds ≡ bind_message 1 dn password ∷ []) × (next ≡ 2) × DecidesBind received bound) ⊎ ((binds ≡ []) × (next ≡ 1) × IsUnsentBind bound)
 
-bound_over : (dn password : List ℕ) (bound : Bound) (known between known' : Option (List MessageValue)) (before after : Option (List ℕ)) (received : List ℕ) (failed : Option Why) (next : ℕ) (binds : List MessageValue)
-    → BindSent dn password bound received binds next → between ≡ with_messages known binds → after ≡ append_known before received → Unbinds failed next between known' → BindsOver dn password bound known known' before after
-bound_over dn password bound known between known' before after received failed next binds are told comes unbinds = elim unbinds [
-  | inl unbound ↦ record {
-    messages = binds ++ unbind_message next ∷ [];
-    received = received;
-    asked = record { binds = binds; next = next; unbinds = unbind_message next ∷ []; sent = are; unbind = inr refl; are = refl };
-    told = with_unbind known between known' binds (unbind_message next) told unbound;
-    comes = comes;
-  }
-  | inr same ↦ record {
-    messages = binds ++ [];
-    received = received;
-    asked = record { binds = binds; next = next; unbinds = []; sent = are; unbind = inl refl; are = refl };
-    told = without_unbind known between known' binds told same;
-    comes = comes;
-  }
-]
+bound_over : (dn password : List ℕ) (bound : Bound) (rose : Type 0) (known known' : Option (List MessageValue)) (before after : Option (List ℕ)) (received : List ℕ) (failed : Option Why) (next : ℕ) (binds : List MessageValue)
+    → BindSent dn password bound received binds next → failed ≡ failure_by_bind bound → after ≡ append_known before received → Unbound failed rose next known known' binds → BindsOver dn password bound rose known known' before after
+bound_over dn password bound rose known known' before after received failed next binds are fails comes u = record {
+  messages = binds ++ u.unbinds;
+  received = received;
+  asked = record { binds = binds; next = next; unbinds = u.unbinds; sent = are; unbind = subst (λ (o : Option Why). MayUnbind o rose next u.unbinds) fails u.may; are = refl };
+  told = u.told;
+  comes = comes;
+}
 
 -- what a bind says of a client's requests
 pub record BindFacts {L : Type 0} (asked : L → Option (List MessageValue)) (received : L → Option (List ℕ)) (dn password : List ℕ) (bound : Bound) (refused ended : Type 0) (old new : Talk L) : Type 0 where
@@ -383,21 +403,70 @@ pub record BindFacts {L : Type 0} (asked : L → Option (List MessageValue)) (re
   pub no_reply : old.failed ≡ None → new.next ≡ old.next → IsUnbound bound refused
   pub sent : new.next ≡ old.next + 1 → asked new.link ≡ with_message (asked old.link) (bind_message old.next dn password)
   pub reply : new.next ≡ old.next + 1 → IsBound bound (decided requests.Bind old.next old.at new.received) new.at ended
+  pub fails : old.failed ≡ None → new.failed ≡ failure_by_bind bound
   pub grew : Grew old.received new.received (received old.link) (received new.link)
 
-pub bind_asks : {L : Type 0} (asked : L → Option (List MessageValue)) (received : L → Option (List ℕ)) (dn password : List ℕ) (bound : Bound) (refused ended : Type 0) (old new : Talk L) (before line : L) → old ≡ fresh before
-    → BindFacts asked received dn password bound refused ended old new → Unbinds new.failed new.next (asked new.link) (asked line) → received line ≡ received new.link → BindsOver dn password bound (asked before) (asked line) (received before) (received line)
-bind_asks {L} asked received dn password bound refused ended old new before line made facts unbinds same =
+pub bind_asks : {L : Type 0} (asked : L → Option (List MessageValue)) (received : L → Option (List ℕ)) (dn password : List ℕ) (bound : Bound) (refused ended here rose : Type 0) (old new : Talk L) (before line : L) → old ≡ fresh before → (here → rose)
+    → BindFacts asked received dn password bound refused ended old new → Unbinds new.failed here new.next (asked new.link) (asked line) → received line ≡ received new.link → BindsOver dn password bound rose (asked before) (asked line) (received before) (received line)
+bind_asks {L} asked received dn password bound refused ended here rose old new before line made to facts unbinds same =
     let f : BindFacts asked received dn password bound refused ended (fresh before) new = subst (λ (o : Talk L). BindFacts asked received dn password bound refused ended o new) made facts in
     let comes : received line ≡ append_known (received before) new.received = same ∙ f.grew.told ∙ ap (append_known (received before)) (sym f.grew.grown) in
     elim f.used [
       | inl still ↦
-          bound_over dn password bound (asked before) (asked new.link) (asked line) (received before) (received line) new.received new.failed new.next []
-          (inr (refl, still, unsent_bind bound refused (f.no_reply refl still))) (f.unsent still ∙ with_none (asked before)) comes unbinds
+          bound_over dn password bound rose (asked before) (asked line) (received before) (received line) new.received new.failed new.next []
+          (inr (refl, still, unsent_bind bound refused (f.no_reply refl still))) (f.fails refl) comes
+          (unbound_by new.failed here rose new.next (asked before) (asked new.link) (asked line) [] to (f.unsent still ∙ with_none (asked before)) unbinds)
       | inr more ↦
-          bound_over dn password bound (asked before) (asked new.link) (asked line) (received before) (received line) new.received new.failed new.next (bind_message 1 dn password ∷ [])
-          (inl (refl, more, (new.at, bound_by bound (decided requests.Bind 1 0 new.received) new.at ended (f.reply more)))) (f.sent more) comes unbinds
+          bound_over dn password bound rose (asked before) (asked line) (received before) (received line) new.received new.failed new.next (bind_message 1 dn password ∷ [])
+          (inl (refl, more, (new.at, bound_by bound (decided requests.Bind 1 0 new.received) new.at ended (f.reply more)))) (f.fails refl) comes
+          (unbound_by new.failed here rose new.next (asked before) (asked new.link) (asked line) (bind_message 1 dn password ∷ []) to (f.sent more) unbinds)
     ]
+
+-- a count that rose behind a bind rose in all
+pub bind_rose : {L : Type 0} (faults : L → ℕ) (old : Talk L) (before : L) (new line : ℕ) → old ≡ fresh before → faults old.link ≤ new → Rose new line → Rose (faults before) line
+bind_rose {L} faults old before new line made later rose = rose_earlier (faults before) new line (subst (λ (o : Talk L). faults o.link ≤ new) made later) rose
+
+-- ---- a line that is given back
+
+-- the same where one count of faults rose with another
+unbind_on : (failed : Option Why) (here rose : Type 0) (next : ℕ) (unbinds : List MessageValue) → (here → rose) → MayUnbind failed here next unbinds → MayUnbind failed rose next unbinds
+unbind_on (Some why) here rose next unbinds to h = h
+unbind_on None here rose next unbinds to h = elim h [ inl sent ↦ inl sent | inr unsent ↦ inr (to unsent.0, unsent.1) ]
+
+pub lookup_on : (config : Config) (key : Key) (fetched : Fetched) (here rose : Type 0) (messages : List MessageValue) (received : List ℕ) → (here → rose) → LookupAsked config key fetched here messages received → LookupAsked config key fetched rose messages received
+lookup_on config key fetched here rose messages received to a = record {
+  exchanges = a.exchanges;
+  searches = a.searches;
+  next = a.next;
+  unbinds = a.unbinds;
+  sent = a.sent;
+  begins = a.begins;
+  ends = a.ends;
+  answers = a.answers;
+  unbind = unbind_on (failure_of a.exchanges) here rose a.next a.unbinds to a.unbind;
+  are = a.are;
+}
+
+pub bind_on : (dn password : List ℕ) (bound : Bound) (here rose : Type 0) (messages : List MessageValue) (received : List ℕ) → (here → rose) → BindAsked dn password bound here messages received → BindAsked dn password bound rose messages received
+bind_on dn password bound here rose messages received to a = record {
+  binds = a.binds;
+  next = a.next;
+  unbinds = a.unbinds;
+  sent = a.sent;
+  unbind = unbind_on (failure_by_bind bound) here rose a.next a.unbinds to a.unbind;
+  are = a.are;
+}
+
+-- the same of the operations
+pub lookup_operations_on : (config : Config) (key : Key) (server : ℕ) (fetched : Fetched) (here rose : Type 0) (operations : List Operation) (lines : List (List ℕ)) → (here → rose) → LookupOperations config key server fetched here operations lines
+    → LookupOperations config key server fetched rose operations lines
+lookup_operations_on config key server fetched here rose operations lines to (lookup_parts.undialled failed) = lookup_parts.undialled failed
+lookup_operations_on config key server fetched here rose operations lines to (lookup_parts.looked messages received a) = lookup_parts.looked messages received (lookup_on config key fetched here rose messages received to a)
+
+pub bind_operations_on : (dn password : List ℕ) (server : ℕ) (bound : Bound) (here rose : Type 0) (operations : List Operation) (lines : List (List ℕ)) → (here → rose) → BindOperations dn password server bound here operations lines
+    → BindOperations dn password server bound rose operations lines
+bind_operations_on dn password server bound here rose operations lines to (bind_parts.undialled failed) = bind_parts.undialled failed
+bind_operations_on dn password server bound here rose operations lines to (bind_parts.bound_on messages received a) = bind_parts.bound_on messages received (bind_on dn password bound here rose messages received to a)
 
 -- what came in a bind
 pub bind_grew : (next next' : ℕ) (before after : List ℕ) (known known' : Option (List ℕ)) → (next' ≡ next) ⊎ (next' ≡ next + 1) → (next' ≡ next → Grew before after known known') → (next' ≡ next + 1 → Grew before after known known') → Grew before after known known'

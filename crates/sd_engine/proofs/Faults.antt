@@ -26,6 +26,10 @@ pub done_later : (before between after line : ℕ) → before ≤ between → (0
 done_later before between after zero later rises stays = let e = stays refl in omega (arith, e, later)
 done_later before between after (suc n) later rises stays = let risen : Rose between after = rises (omega arith) in omega (arith, risen, later)
 
+-- a fault of a line is one of the dialer that takes it back
+pub rose_back : (first between after before line : ℕ) → first ≤ between → before ≡ 0 → (0 < line → Rose between after) → Rose before line → Rose first after
+rose_back first between after before line later none rises rose = rose_earlier first between after later (rises (some_fault before line none rose))
+
 -- the operations told where a dial failed
 pub asks_nothing : (known known' : Option (List Operation)) → known' ≡ known → known' ≡ with_operations known []
 asks_nothing None known' e = e

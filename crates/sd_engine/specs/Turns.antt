@@ -78,7 +78,7 @@ dialling_of t dialer = record { operations = t.operations dialer; received = t.r
 -- the lookup of a key at a server came to this
 pub record Fetches (config : Config) (key : Key) (server : ℕ) (fetched : Fetched) (d e : Dialling) : Type 0 where
   pub kind : is_fetched_of_kind key fetched ≡ true
-  pub asked : AsksLookup config key server fetched d.operations e.operations d.received e.received
+  pub asked : AsksLookup config key server fetched (Rose d.faults e.faults) d.operations e.operations d.received e.received
   pub fallen : fetched ≡ fetches.Failed whys.Link → Rose d.faults e.faults
   pub later : HasNotFallen d.faults e.faults
   pub told : (b : Behind) → d.behind server ≡ Some b → IsToldFetch fetched (first_failure b 0 1 (searches_of config b.entries key)) (looked_up config b.entries key)
@@ -86,7 +86,7 @@ pub record Fetches (config : Config) (key : Key) (server : ℕ) (fetched : Fetch
 
 -- the bind at a server came to this
 pub record Binds (server : ℕ) (dn password : List ℕ) (bound : Bound) (d e : Dialling) : Type 0 where
-  pub asked : AsksBind dn password server bound d.operations e.operations d.received e.received
+  pub asked : AsksBind dn password server bound (Rose d.faults e.faults) d.operations e.operations d.received e.received
   pub fallen : bound ≡ bounds.Failed whys.Link → Rose d.faults e.faults
   pub later : HasNotFallen d.faults e.faults
   pub told : (b : Behind) → d.behind server ≡ Some b → IsToldBind bound (told_bind b 0 1 dn password)

@@ -18,7 +18,7 @@ use std::alloc::Global;
 /// Binds over a link on which nothing is to come, and gives the link back.
 fn bind_over<L: DirectoryLink>(alloc: Global, line: L, dn: &Text, password: &Text) -> (Bound, L)
     requires { IfSome (L.coming line) (λ bytes. bytes ≡ []) }
-    ensures asks { BindsOver dn.now password.now result.0 (L.asked line) (L.asked result.1) (L.received line) (L.received result.1) }
+    ensures asks { BindsOver dn.now password.now result.0 (Rose (L.faults line) (L.faults result.1)) (L.asked line) (L.asked result.1) (L.received line) (L.received result.1) }
     ensures fallen { result.0 ≡ Bound.Failed Why.Link → Rose (L.faults line) (L.faults result.1) }
     ensures later { L.faults line ≤ L.faults result.1 }
     ensures told { (b : Behind) → L.behind line ≡ Some b → IsToldBind result.0 (told_bind b 0 1 dn.now password.now) }
@@ -37,9 +37,9 @@ pub fn bind_at<D: Dialer, G: Gate>(
     dn: &Text,
     password: &Text,
 ) -> Bound
-    // The operations asked: none where the dial failed, else the dial, the bind, and an unbind unless the client failed. The bytes
-    // received on the line decide what a bind that was sent came to.
-    ensures operations { AsksBind dn.now password.now server result (D.operations dialer.old) (D.operations dialer.new) (D.received dialer.old) (D.received dialer.new) }
+    // The operations asked: none where the dial failed, else the dial, the bind, and an unbind unless the client failed, or the line
+    // did in sending it. The bytes received on the line decide what a bind that was sent came to.
+    ensures operations { AsksBind dn.now password.now server result (Rose (D.faults dialer.old) (D.faults dialer.new)) (D.operations dialer.old) (D.operations dialer.new) (D.received dialer.old) (D.received dialer.new) }
     // A fall of the link is counted.
     ensures fallen { result ≡ Bound.Failed Why.Link → Rose (D.faults dialer.old) (D.faults dialer.new) }
     ensures later { HasNotFallen (D.faults dialer.old) (D.faults dialer.new) }

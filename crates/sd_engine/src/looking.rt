@@ -22,7 +22,7 @@ use std::alloc::Global;
 fn look_over<L: DirectoryLink>(alloc: Global, line: L, config: &Config, key: &Key) -> (Fetched, L)
     requires { IfSome (L.coming line) (λ bytes. bytes ≡ []) }
     ensures kind { is_fetched_of_kind key.now result.0 ≡ true }
-    ensures asks { LooksOver config.now key.now result.0 (L.asked line) (L.asked result.1) (L.received line) (L.received result.1) }
+    ensures asks { LooksOver config.now key.now result.0 (Rose (L.faults line) (L.faults result.1)) (L.asked line) (L.asked result.1) (L.received line) (L.received result.1) }
     ensures fallen { result.0 ≡ Fetched.Failed Why.Link → Rose (L.faults line) (L.faults result.1) }
     ensures later { L.faults line ≤ L.faults result.1 }
     ensures told { (b : Behind) → L.behind line ≡ Some b → IsToldFetch result.0 (first_failure b 0 1 (searches_of config.now b.entries key.now)) (looked_up config.now b.entries key.now) }
@@ -43,8 +43,8 @@ pub fn fetch_at<D: Dialer, G: Gate>(
 ) -> Fetched
     ensures kind { is_fetched_of_kind key.now result ≡ true }
     // The operations asked: none where the dial failed, else the dial, the searches by which it came to its result, and an unbind
-    // unless the client failed. The bytes received on the line decide what each search that was sent came to.
-    ensures operations { AsksLookup config.now key.now server result (D.operations dialer.old) (D.operations dialer.new) (D.received dialer.old) (D.received dialer.new) }
+    // unless the client failed, or the line did in sending it. The bytes received on the line decide what each search that was sent came to.
+    ensures operations { AsksLookup config.now key.now server result (Rose (D.faults dialer.old) (D.faults dialer.new)) (D.operations dialer.old) (D.operations dialer.new) (D.received dialer.old) (D.received dialer.new) }
     // A fall of the link is counted.
     ensures fallen { result ≡ Fetched.Failed Why.Link → Rose (D.faults dialer.old) (D.faults dialer.new) }
     ensures later { HasNotFallen (D.faults dialer.old) (D.faults dialer.new) }

@@ -17,13 +17,13 @@ use Rattle.sd_engine.specs.Courses.{Client, need_of, client_replied}
 use Rattle.sd_engine.specs.Names.{holds_order}
 use Rattle.sd_engine.specs.Leading.{about, opened, is_closing, place_in, without_place, without, with_one, leads_after, ticket_after}
 use Rattle.sd_session.specs.Holding.{lists, leads_of, attempt_of, waits_of, leads_in, attempt_in, waits_in, client_renews}
-use Rattle.sd_session.specs.Closing.{WasGiven, IsShut, HasLeft, IsNoRequest, IsNoAttempt, IsSorted, IsLed, IsHeld, AreLed, AreHeld, Accounts, GivesUp, NoneReserved}
+use Rattle.sd_session.specs.Closing.{WasGiven, IsShut, HasLeft, IsNoRequest, IsNoAttempt, IsSorted, IsLed, IsHeld, AreLed, AreHeld, has_number, AreApart, AreOwn, Accounts, GivesUp, NoneReserved}
 use Rattle.sd_session.proofs.ClosingLaws.{is_taking, request_shut, attempt_shut, ticket_left}
 use Rattle.sd_session.proofs.HeldLaws.{SameHeld, HoldsNothing, GoesOnWithNothing, renews_on}
 use Rattle.sd_session.proofs.HoldingLaws.{Follows, untrue}
 use Rattle.sd_session.proofs.CourseLaws.{course_follows}
 use Rattle.sd_session.proofs.ReplyKinds.{replies_as, answers_ask, answers_login, reply_kind}
-use Rattle.sd_session.proofs.ShutLaws.{given_after, given_now, given_reached, no_request_after, no_request_reached, no_attempt_after, no_attempt_reached, shut_both, shut_after, shut_reached, left_after, left_reached, reserves_none}
+use Rattle.sd_session.proofs.ShutLaws.{not_next, given_after, given_now, given_reached, no_request_after, no_request_reached, no_attempt_after, no_attempt_reached, shut_both, shut_after, shut_reached, left_after, left_reached, reserves_none}
 
 -- ---- where nothing is opened or closed
 
@@ -83,6 +83,7 @@ account_as d leads ticket x y own same_leads same_attempt same_waits renewing a 
   led = a.led;
   held = held_as d x y own same_leads same_attempt same_waits a.held;
   sorted = sorted_as d x y same_leads same_attempt (renewing a.sorted.renews) a.sorted;
+  are_own = a.are_own;
 }
 
 pub account_same : (d : Daemon) (leads : List ℕ) (ticket : Option ℕ) (c : Client) (c' : Client) (x y : Option Client) (own : List Entry) → x ≡ Some c → y ≡ Some c' → SameHeld c.course c'.course → Accounts d leads ticket x own → Accounts d leads ticket y own
@@ -149,6 +150,7 @@ account_reached d f leads ticket client own to a = record {
     requests = λ n h. no_attempt_reached n d f to (a.sorted.requests n h);
     attempts = λ n h. no_request_reached n d f to (a.sorted.attempts n h);
   };
+  are_own = a.are_own;
 }
 
 -- ---- the list of what is led
@@ -258,7 +260,120 @@ new_led : (b : Bool) (ms : List ℕ) (who more : Option ℕ) (n : ℕ) → b ≡
 new_led true ms who more n f e = let clash : ⊥ = cc in absurd clash
 new_led false ms who more n f e = new_with ms more n e
 
+-- what is led after a reply was led before, or the reply opened it
+from_place_by : (b : Bool) (m : ℕ) (ms : List ℕ) (r n : ℕ) → (lists (without_place ms (place_in ms r)) n ≡ true → lists ms n ≡ true) → lists (without_place (m ∷ ms) (cond b 0 (place_in ms r + 1))) n ≡ true → lists (m ∷ ms) n ≡ true
+from_place_by true m ms r n rest h = lists_rest m n ms (sym (ap (λ (l : List ℕ). lists l n) (without_first m ms)) ∙ h)
+from_place_by false m ms r n rest h =
+    let shape : without_place (m ∷ ms) (place_in ms r + 1) ≡ m ∷ without_place ms (place_in ms r) = ap (without_place (m ∷ ms)) (add-one (place_in ms r)) ∙ without_later m ms (place_in ms r) in
+    elim (first_or_rest m n (without_place ms (place_in ms r)) (sym (ap (λ (l : List ℕ). lists l n) shape) ∙ h)) [
+      | inl same ↦ lists_first m n ms same
+      | inr later ↦ lists_rest m n ms (rest later)
+    ]
+
+from_place : (ms : List ℕ) (r n : ℕ) → lists (without_place ms (place_in ms r)) n ≡ true → lists ms n ≡ true
+from_place [] r n h = untrue h
+from_place (m ∷ ms) r n h = from_place_by (m == r) m ms r n (from_place ms r n) h
+
+from_without : (ms : List ℕ) (who : Option ℕ) (n : ℕ) → lists (without ms who) n ≡ true → lists ms n ≡ true
+from_without ms None n h = h
+from_without ms (Some r) n h = from_place ms r n h
+
+from_last : (ms : List ℕ) (r n : ℕ) → lists (ms ++ r ∷ []) n ≡ true → (lists ms n ≡ true) ⊎ (r ≡ n)
+from_last [] r n h = elim (first_or_rest r n [] h) [
+  | inl same ↦ inr same
+  | inr later ↦ untrue later
+]
+from_last (m ∷ ms) r n h = elim (first_or_rest m n (ms ++ r ∷ []) h) [
+  | inl same ↦ inl (lists_first m n ms same)
+  | inr later ↦ elim (from_last ms r n later) [
+    | inl l ↦ inl (lists_rest m n ms l)
+    | inr same ↦ inr same
+  ]
+]
+
+from_with : (ms : List ℕ) (more : Option ℕ) (n : ℕ) → lists (with_one ms more) n ≡ true → (lists ms n ≡ true) ⊎ (more ≡ Some n)
+from_with ms None n h = inl h
+from_with ms (Some r) n h = elim (from_last ms r n h) [
+  | inl l ↦ inl l
+  | inr same ↦ inr (ap Some same)
+]
+
+from_led : (b : Bool) (ms : List ℕ) (who more : Option ℕ) (n : ℕ) → lists (cond b (without ms who) (with_one ms more)) n ≡ true → (lists ms n ≡ true) ⊎ (more ≡ Some n)
+from_led true ms who more n h = inl (from_without ms who n h)
+from_led false ms who more n h = from_with ms more n h
+
+-- no number is listed twice after a reply
+is_false : (b : Bool) → (b ≡ true → ⊥) → b ≡ false
+is_false true never = absurd (never refl)
+is_false false never = refl
+
+not_listed : (x y : List ℕ) (n : ℕ) → (lists x n ≡ true → lists y n ≡ true) → lists y n ≡ false → lists x n ≡ false
+not_listed x y n to none = is_false (lists x n) (λ l. untrue (sym none ∙ to l))
+
+apart_place_by : (b : Bool) (m : ℕ) (ms : List ℕ) (r : ℕ) → AreApart (without_place ms (place_in ms r)) → AreApart (m ∷ ms) → AreApart (without_place (m ∷ ms) (cond b 0 (place_in ms r + 1)))
+apart_place_by true m ms r rest h = subst AreApart (sym (without_first m ms)) h.1
+apart_place_by false m ms r rest h =
+    let shape : without_place (m ∷ ms) (place_in ms r + 1) ≡ m ∷ without_place ms (place_in ms r) = ap (without_place (m ∷ ms)) (add-one (place_in ms r)) ∙ without_later m ms (place_in ms r) in
+    subst AreApart (sym shape) (not_listed (without_place ms (place_in ms r)) ms m (from_place ms r m) h.0, rest)
+
+apart_place : (ms : List ℕ) (r : ℕ) → AreApart ms → AreApart (without_place ms (place_in ms r))
+apart_place [] r h = tt
+apart_place (m ∷ ms) r h = apart_place_by (m == r) m ms r (apart_place ms r h.1) h
+
+apart_without : (ms : List ℕ) (who : Option ℕ) → AreApart ms → AreApart (without ms who)
+apart_without ms None h = h
+apart_without ms (Some r) h = apart_place ms r h
+
+apart_last : (ms : List ℕ) (r : ℕ) → AreApart ms → lists ms r ≡ false → AreApart (ms ++ r ∷ [])
+apart_last [] r h none = (refl, tt)
+apart_last (m ∷ ms) r h none = (
+  not_listed (ms ++ r ∷ []) ms m (λ l. elim (from_last ms r m l) [
+    | inl before ↦ before
+    | inr same ↦ untrue (sym (sym (lists_first m r ms (sym same)) ∙ none))
+  ]) h.0,
+  apart_last ms r h.1 (not_listed ms (m ∷ ms) r (lists_rest m r ms) none),
+)
+
+apart_with : (ms : List ℕ) (more : Option ℕ) → AreApart ms → ((n : ℕ) → more ≡ Some n → lists ms n ≡ false) → AreApart (with_one ms more)
+apart_with ms None h new = h
+apart_with ms (Some r) h new = apart_last ms r h (new r refl)
+
+apart_led : (b : Bool) (ms : List ℕ) (who more : Option ℕ) → AreApart ms → ((n : ℕ) → more ≡ Some n → lists ms n ≡ false) → AreApart (cond b (without ms who) (with_one ms more))
+apart_led true ms who more h new = apart_without ms who h
+apart_led false ms who more h new = apart_with ms more h new
+
+-- numbers of entries
+or_later : (a b c : Bool) → (b ≡ true → c ≡ true) → (a || b) ≡ true → (a || c) ≡ true
+or_later true b c to h = refl
+or_later false b c to h = to h
+
+number_before : (own : List Entry) (e : Entry) (n : ℕ) → has_number own n ≡ true → has_number (own ++ e ∷ []) n ≡ true
+number_before [] e n h = untrue h
+number_before (x ∷ own) e n h = or_later (x.number == n) (has_number own n) (has_number (own ++ e ∷ []) n) (number_before own e n) h
+
+number_last : (own : List Entry) (e : Entry) → has_number (own ++ e ∷ []) e.number ≡ true
+number_last [] e = or_first (e.number == e.number) false (same_number e.number)
+number_last (x ∷ own) e = or_second (x.number == e.number) (has_number (own ++ e ∷ []) e.number) (number_last own e)
+
+-- the number of an own entry was given before
+number_given : (d : Daemon) (leads : List ℕ) (ticket : Option ℕ) (own : List Entry) (n : ℕ) → AreLed d leads ticket own → has_number own n ≡ true → WasGiven n d
+number_given d leads ticket [] n l h = untrue h
+number_given d leads ticket (e ∷ own) n l h = elim (either_number (e.number == n) (has_number own n) e.number n refl h) [
+  | inl same ↦ subst (λ (m : ℕ). WasGiven m d) same l.0.given
+  | inr later ↦ number_given d leads ticket own n l.1 later
+]
+
 -- ---- the ticket that is waited with
+
+-- a ticket that is waited with after a reply was before, or the reply gave it
+ticket_from : (ticket : Option ℕ) (reply : Reply) (n : ℕ) → ticket_after ticket reply ≡ Some n → (ticket ≡ Some n) ⊎ ((r : ℕ) × (reply ≡ replies.Join r n))
+ticket_from ticket (replies.Join r t) n h = inr (r, ap (replies.Join r) (same_in t n h))
+  where
+    same_in : (a b : ℕ) → Some a ≡ Some b → a ≡ b
+    same_in a b e = cc
+ticket_from ticket (replies.Took outcome) n h = none_some h
+ticket_from ticket replies.NoTicket n h = none_some h
+ticket_from ticket _ n h = inl h
 
 -- a ticket stays, or another is given, or it is taken
 ticket_stays : (ticket : Option ℕ) (reply : Reply) (n : ℕ) → ticket ≡ Some n → (ticket_after ticket reply ≡ Some n) ⊎ (((r : ℕ) × ((t : ℕ) × (reply ≡ replies.Join r t))) ⊎ (is_taking reply ≡ true))
@@ -503,6 +618,31 @@ module _ (d : Daemon) (now : ℕ) (event : Event) (c : Client) (s : IsStep d now
       new_attempt : opens_attempt event reply ≡ true → IsNoRequest number later
       new_attempt h = record { given = own_given; none = own_requests (closes event reply number) (number == number) (entry_made d now event) (unclosed d.past number) (same_number number) (attempt_apart event reply h) }
 
+  -- what is led after the step has the number of an own entry
+  own_on : (leads : List ℕ) (ticket : Option ℕ) (own : List Entry) → AreLed d leads ticket own → AreOwn leads ticket own → AreOwn (leads_after leads (about event) reply) (ticket_after ticket reply) (own ++ entry_made d now event ∷ [])
+  own_on leads ticket own led a = record {
+    leads_own = λ n h. elim (from_led (is_closing reply) leads (about event) (opened reply) n h) [
+      | inl before ↦ number_before own e n (a.leads_own n before)
+      | inr more ↦ subst (λ (m : ℕ). has_number (own ++ e ∷ []) m ≡ true) (own_number number n event reply s.replied (s.follows.fresh n more) more) (number_last own e)
+    ];
+    once = apart_led (is_closing reply) leads (about event) (opened reply) a.once (λ n more. unlisted n (own_number number n event reply s.replied (s.follows.fresh n more) more));
+    ticket_own = λ n h. elim (ticket_from ticket reply n h) [
+      | inl before ↦ number_before own e n (a.ticket_own n before)
+      | inr join ↦
+          subst (λ (m : ℕ). has_number (own ++ e ∷ []) m ≡ true)
+          (ticket_own number join.0 n event (subst (λ (x : Reply). replies_as number event x ≡ true) join.1 s.replied) (s.follows.asked join.0 n join.1)) (number_last own e)
+    ];
+  }
+    where
+      e : Entry
+      e = entry_made d now event
+
+      new_number : (n : ℕ) → number ≡ n → WasGiven n d → ⊥
+      new_number n is given = let clash : false ≡ true = sym (not_next n d given.below) ∙ subst (λ (m : ℕ). (number == m) ≡ true) is (same_number number) in untrue clash
+
+      unlisted : (n : ℕ) → number ≡ n → lists leads n ≡ false
+      unlisted n is = is_false (lists leads n) (λ listed. new_number n is (number_given d leads ticket own n led (a.leads_own n listed)))
+
   all_led : (leads : List ℕ) (ticket : Option ℕ) (own : List Entry) → AreLed d leads ticket own → AreHeld d (Some c) own → AreLed later (leads_after leads (about event) reply) (ticket_after ticket reply) (own ++ entry_made d now event ∷ [])
   all_led leads ticket [] l h = (led_new leads ticket, tt)
   all_led leads ticket (e ∷ own) l h = (led_on leads ticket e.number l.0 h.0, all_led leads ticket own l.1 h.1)
@@ -533,6 +673,7 @@ account_steps d now event c leads ticket own may orderly needed order a =
       led = all_led d now event c s leads ticket own a.led a.held;
       held = all_held d now event c s leads ticket own a.led a.held;
       sorted = sorted_on d now event c s (renews_on c.seed c.course (given d now event) a.sorted.renews);
+      are_own = own_on d now event c s leads ticket own a.led a.are_own;
     }
 
 -- ---- at the end

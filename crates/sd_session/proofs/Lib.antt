@@ -2,13 +2,17 @@ mod Accounting
 mod Begun
 mod Carrying
 mod ClosingLaws
+mod CollectLaws
 mod CourseLaws
 mod Ending
 mod GivingUp
+mod HeadlineLaws
 mod HeldLaws
 mod HoldingLaws
 mod Opening
 mod OverLaws
+mod PickingLaws
+mod RefusedMoves
 mod Refusing
 mod ReplyKinds
 mod Sharing

@@ -25,12 +25,12 @@ stands_at_first : (w : Company) (seed : List ℕ) (config : Config) (d : Daemon)
 stands_at_first w seed config d o = record {
   moves = [];
   may = tt;
-  hand = record { same = refl; client = refl; in_hand = tt };
+  hand = record { same = refl; client = refl; in_hand = tt; going = λ none. refl; picked = λ server asks. none_yet asks };
   heard = record { consumed = Consumes-nil o.left; place = refl; stops = refl; reads = omega arith };
   written = record { written = Appends-nil o.held; broken = refl; told = tt; failed = λ b. not_yet b; writes = omega arith };
   trace = (reads_none o.trace.readings, sym (append-nil o.trace.entries));
   asked = record { operations = nothing_more o.dialling.operations; received = same_lines o.dialling.received; behind = λ i. refl; falls = omega arith; later = omega arith };
-  account = record { led = tt; held = tt; sorted = record { renews = refl; requests = λ n h. not_yet h; attempts = λ n h. none_yet h } };
+  account = record { led = tt; held = tt; sorted = record { renews = refl; requests = λ n h. not_yet h; attempts = λ n h. none_yet h }; are_own = record { leads_own = λ n h. not_yet h; once = tt; ticket_own = λ n h. none_yet h } };
 }
 
 pub stands_begun : (w : Company) (seed : List ℕ) (config : Config) (d : Daemon) (o : Outside) (e : Engine) → e ≡ engines.begun → Stands w seed config d o e d o

@@ -19,7 +19,7 @@ use Rattle.sd_session.specs.Holding.{lists}
 use Rattle.sd_session.specs.Running.{Unfinished}
 use Rattle.sd_session.specs.Sessions.{Company, Trace}
 use Rattle.sd_session.specs.Stepping.{IsMade}
-use Rattle.sd_session.specs.Withdrawing.{MayWithdraw, is_abrupt}
+use Rattle.sd_session.specs.Withdrawing.{MayTry, giving_up, is_abrupt}
 use Rattle.sd_session.proofs.Accounting.{none_after, first_or_rest}
 use Rattle.sd_session.proofs.Carrying.{Far}
 use Rattle.sd_session.proofs.ClosingLaws.{IsClosedBy, by_open, same_and, shut_wholly, ended}
@@ -136,18 +136,18 @@ left_one d g ticket over n same given =
 
 -- ---- the end of a session
 
-stays_there : (w : Company) (abrupt : Bool) (d f : Daemon) (before now : Trace) → MayWithdraw w abrupt d f before now → abrupt ≡ false → f ≡ d
-stays_there w true d f before now m h = untrue (sym h)
-stays_there w false d f before now m h = m.0
+stays_there : (w : Company) (abrupt : Bool) (events : List Event) (d f : Daemon) (before now : Trace) → MayTry w abrupt events d f before now → abrupt ≡ false → f ≡ d
+stays_there w true events d f before now m h = untrue (sym h)
+stays_there w false events d f before now m h = m.0
 
 pub closed_at_end : (w : Company) (ending : SessionEnd) (d f : Daemon) (engine : Engine) (own : List Entry) (before now : Trace) → Unfinished ending d engine own → (is_abrupt ending ≡ true → GivesUp d f engine.leads engine.ticket) →
-    MayWithdraw w (is_abrupt ending) d f before now → NoneReserved f own
-closed_at_end w (ends.JournalFull count) d f engine own before now left gives m = none_after d f engine.leads engine.ticket own (gives refl) left
-closed_at_end w ends.Memory d f engine own before now left gives m = none_after d f engine.leads engine.ticket own (gives refl) left
-closed_at_end w ends.Closed d f engine own before now left gives m = subst (λ (x : Daemon). NoneReserved x own) (sym (stays_there w false d f before now m refl)) left
-closed_at_end w ends.Stopped d f engine own before now left gives m = subst (λ (x : Daemon). NoneReserved x own) (sym (stays_there w false d f before now m refl)) left
-closed_at_end w ends.ReadFault d f engine own before now left gives m = subst (λ (x : Daemon). NoneReserved x own) (sym (stays_there w false d f before now m refl)) left
-closed_at_end w ends.WriteFault d f engine own before now left gives m = subst (λ (x : Daemon). NoneReserved x own) (sym (stays_there w false d f before now m refl)) left
-closed_at_end w (ends.BadFrame at) d f engine own before now left gives m = subst (λ (x : Daemon). NoneReserved x own) (sym (stays_there w false d f before now m refl)) left
-closed_at_end w ends.Cut d f engine own before now left gives m = subst (λ (x : Daemon). NoneReserved x own) (sym (stays_there w false d f before now m refl)) left
-closed_at_end w (ends.Long count) d f engine own before now left gives m = subst (λ (x : Daemon). NoneReserved x own) (sym (stays_there w false d f before now m refl)) left
+    MayTry w (is_abrupt ending) (giving_up engine.leads engine.ticket) d f before now → NoneReserved f own
+closed_at_end w (ends.JournalFull count) d f engine own before now left gives m = none_after d f engine.leads engine.ticket own (gives refl) left.led
+closed_at_end w ends.Memory d f engine own before now left gives m = none_after d f engine.leads engine.ticket own (gives refl) left.led
+closed_at_end w ends.Closed d f engine own before now left gives m = subst (λ (x : Daemon). NoneReserved x own) (sym (stays_there w false (giving_up engine.leads engine.ticket) d f before now m refl)) left
+closed_at_end w ends.Stopped d f engine own before now left gives m = subst (λ (x : Daemon). NoneReserved x own) (sym (stays_there w false (giving_up engine.leads engine.ticket) d f before now m refl)) left
+closed_at_end w ends.ReadFault d f engine own before now left gives m = subst (λ (x : Daemon). NoneReserved x own) (sym (stays_there w false (giving_up engine.leads engine.ticket) d f before now m refl)) left
+closed_at_end w ends.WriteFault d f engine own before now left gives m = subst (λ (x : Daemon). NoneReserved x own) (sym (stays_there w false (giving_up engine.leads engine.ticket) d f before now m refl)) left
+closed_at_end w (ends.BadFrame at) d f engine own before now left gives m = subst (λ (x : Daemon). NoneReserved x own) (sym (stays_there w false (giving_up engine.leads engine.ticket) d f before now m refl)) left
+closed_at_end w ends.Cut d f engine own before now left gives m = subst (λ (x : Daemon). NoneReserved x own) (sym (stays_there w false (giving_up engine.leads engine.ticket) d f before now m refl)) left
+closed_at_end w (ends.Long count) d f engine own before now left gives m = subst (λ (x : Daemon). NoneReserved x own) (sym (stays_there w false (giving_up engine.leads engine.ticket) d f before now m refl)) left

@@ -1,5 +1,5 @@
 -- Steps at a desk, as moves of a session.
-use Rattle.std.proofs.Common.{◌≡◌, ◌∙◌, ℕ, Bool, true, false, cond, ◌&&◌, List, [], ◌∷◌, Option, Result, Ok, Err, refl, sym, ap, subst}
+use Rattle.std.proofs.Common.{◌≡◌, ◌∙◌, ℕ, Bool, true, false, cond, ◌&&◌, List, [], ◌∷◌, Option, Some, None, Result, Ok, Err, refl, sym, ap, subst}
 use Rattle.std.specs.Prelude.{IfOk, IfErr}
 use Rattle.sd_rules.specs.declared.events.Event.{Event}
 use Rattle.sd_rules.specs.declared.events.Event.TheVariants as events
@@ -11,6 +11,7 @@ use Rattle.sd_rules.specs.declared.replies.StepFault.{StepFault}
 use Rattle.sd_rules.specs.declared.replies.StepFault.TheVariants as faults
 use Rattle.sd_rules.specs.Reaching as reaching
 use Rattle.sd_rules.specs.Reaching.{Reaches, after_forget}
+use Rattle.sd_rules.specs.Requests.{waits_for}
 use Rattle.sd_rules.specs.Steps.{Daemon, after, is_steppable}
 use Rattle.sd_rules.proofs.ReachingLaws.{reaches_self, reaches_through}
 use Rattle.sd_conf.specs.declared.config.Config.{Config}
@@ -23,20 +24,35 @@ use Rattle.sd_desk.proofs.Reached.{speaks_reached}
 use Rattle.sd_engine.specs.declared.ending.SessionEnd.{SessionEnd}
 use Rattle.sd_engine.specs.declared.ending.SessionEnd.TheVariants as ends
 use Rattle.sd_engine.specs.Engines.{Engine}
-use Rattle.sd_session.specs.Desks.{at_desk}
+use Rattle.sd_session.specs.Desks.{at_desk, IsReady, MayCollect}
 use Rattle.sd_engine.specs.Turns.{Dialling}
 use Rattle.sd_session.specs.Running.{Outside, outside_at}
 use Rattle.sd_session.specs.Sessions.{Company, Trace, Move, Finds, Hears, Steps, Refuses, Fetches, Binds, Tells, Breaks, Finishes, Stand, AllMay, stand_after}
 use Rattle.sd_session.specs.Stepping.{IsMade, RefusedAs, end_of}
-use Rattle.sd_session.specs.Withdrawing.{Try, after_tries, gives_up, AllGiveUp, Withdraws, MayWithdraw, Session, is_abrupt}
+use Rattle.sd_session.specs.Withdrawing.{Try, after_tries, gives_up, giving_up, AllGiveUp, Withdraws, MayWithdraw, Session, is_abrupt}
+use Rattle.sd_session.proofs.HoldingLaws.{untrue}
+use Rattle.sd_session.proofs.ShutLaws.{left_reached}
 use Rattle.sd_session.proofs.Carrying.{Far, Forgot as ForgotBefore}
 
 pub far_at_desk : Far at_desk
 far_at_desk d e to = to
 
-pub made_at_desk : (old new : Daemon) (mine mine' : List Entry) (now : ℕ) (event : Event) (gave : Given) (readings readings' : Option (List ℕ)) → MadeEntry old new mine mine' now event gave → FollowsOn readings now readings'
+-- a ticket that waits no more is ready in each journal that is reached
+pub ready_on : (old found : Daemon) (event : Event) → Reaches old found → MayCollect old event → IsReady found event
+ready_on old found (events.Collect ticket) to left = λ request pending. waits_not (waits_for found.past ticket) request (left_reached ticket old found to left).left pending.waits
+  where
+    waits_not : (o : Option ℕ) (request : ℕ) → o ≡ None → o ≡ Some request → ⊥
+    waits_not o request e f = cc
+ready_on old found _ to left = tt
+
+-- who gives up collects nothing
+pub gives_no_collect : (d : Daemon) (event : Event) → gives_up event ≡ true → MayCollect d event
+gives_no_collect d (events.Collect ticket) h = untrue h
+gives_no_collect d _ h = tt
+
+pub made_at_desk : (old new : Daemon) (mine mine' : List Entry) (now : ℕ) (event : Event) (gave : Given) (readings readings' : Option (List ℕ)) → (m : MadeEntry old new mine mine' now event gave) → FollowsOn readings now readings' → IsReady m.before event
     → IsMade at_desk old event gave new (record { readings = readings; entries = mine }) (record { readings = readings'; entries = mine' })
-made_at_desk old new mine mine' now event gave readings readings' m read = record {
+made_at_desk old new mine mine' now event gave readings readings' m read ready = record {
   found = m.before;
   others = m.reached;
   now = now;
@@ -46,13 +62,14 @@ made_at_desk old new mine mine' now event gave readings readings' m read = recor
   fits = m.made.laws.of_kind;
   kept = m.made.kept;
   room = m.made.room;
+  ready = ready;
   entries = m.made.mine;
 }
 
 pub collected_at_desk : (old new : Daemon) (mine mine' : List Entry) (now ticket : ℕ) (gave : Given) (readings readings' : Option (List ℕ)) → Collected old new mine mine' now ticket gave → FollowsOn readings now readings'
     → IsMade at_desk old (events.Collect ticket) gave new (record { readings = readings; entries = mine }) (record { readings = readings'; entries = mine' })
 collected_at_desk old new mine mine' now ticket gave readings readings' m read =
-    made_at_desk old new mine mine' now (events.Collect ticket) gave readings readings' (record { before = m.before; reached = m.reached; made = m.made }) read
+    made_at_desk old new mine mine' now (events.Collect ticket) gave readings readings' (record { before = m.before; reached = m.reached; made = m.made }) read m.ready
 
 pub full_by : (old new : Daemon) (event : Event) (fault : StepFault) → ((n : ℕ) → fault ≡ faults.JournalFull n → FullAfterForget old new event n)
     → (n : ℕ) → end_of fault ≡ ends.JournalFull n → FullAfterForget old new event n
@@ -120,22 +137,22 @@ reach_moves seed config behind d (Steps now event ∷ moves) may =
     reaches_through d s.daemon (after s.daemon now event) (reach_moves seed config behind d moves may.1) (one_step s.daemon now event may.0.steppable)
 reach_moves seed config behind d (Hears request ∷ moves) may = reach_moves seed config behind d moves may.1
 reach_moves seed config behind d (Refuses now ∷ moves) may = reach_moves seed config behind d moves may.1
-reach_moves seed config behind d (Fetches fetched operations lines ∷ moves) may = reach_moves seed config behind d moves may.1
-reach_moves seed config behind d (Binds bound operations lines ∷ moves) may = reach_moves seed config behind d moves may.1
+reach_moves seed config behind d (Fetches fetched operations lines fell ∷ moves) may = reach_moves seed config behind d moves may.1
+reach_moves seed config behind d (Binds bound operations lines fell ∷ moves) may = reach_moves seed config behind d moves may.1
 reach_moves seed config behind d (Tells said ∷ moves) may = reach_moves seed config behind d moves may.1
 reach_moves seed config behind d (Breaks said count ∷ moves) may = reach_moves seed config behind d moves may.1
 reach_moves seed config behind d (Finishes ∷ moves) may = reach_moves seed config behind d moves may.1
 
 -- the journal that the last own step ended reaches the one where the session stands
-own_reaches : (seed : List ℕ) (config : Config) (behind : ℕ → Option Behind) (d : Daemon) (moves : List Move) → AllMay at_desk seed config behind d moves → Reaches (stand_after seed config d moves).own_end (stand_after seed config d moves).daemon
+pub own_reaches : (seed : List ℕ) (config : Config) (behind : ℕ → Option Behind) (d : Daemon) (moves : List Move) → AllMay at_desk seed config behind d moves → Reaches (stand_after seed config d moves).own_end (stand_after seed config d moves).daemon
 own_reaches seed config behind d [] may = reaches_self d
 own_reaches seed config behind d (Finds found ∷ moves) may =
     let s : Stand = stand_after seed config d moves in reaches_through s.own_end s.daemon found (own_reaches seed config behind d moves may.1) may.0
 own_reaches seed config behind d (Steps now event ∷ moves) may = reaches_self _
 own_reaches seed config behind d (Hears request ∷ moves) may = own_reaches seed config behind d moves may.1
 own_reaches seed config behind d (Refuses now ∷ moves) may = own_reaches seed config behind d moves may.1
-own_reaches seed config behind d (Fetches fetched operations lines ∷ moves) may = own_reaches seed config behind d moves may.1
-own_reaches seed config behind d (Binds bound operations lines ∷ moves) may = own_reaches seed config behind d moves may.1
+own_reaches seed config behind d (Fetches fetched operations lines fell ∷ moves) may = own_reaches seed config behind d moves may.1
+own_reaches seed config behind d (Binds bound operations lines fell ∷ moves) may = own_reaches seed config behind d moves may.1
 own_reaches seed config behind d (Tells said ∷ moves) may = own_reaches seed config behind d moves may.1
 own_reaches seed config behind d (Breaks said count ∷ moves) may = own_reaches seed config behind d moves may.1
 own_reaches seed config behind d (Finishes ∷ moves) may = own_reaches seed config behind d moves may.1
@@ -179,13 +196,13 @@ reach_tries w far d (t ∷ tries) all =
     either t.is_made d (after t.found t.now t.event) t.found (reaches_through d t.found (after t.found t.now t.event) to (one_step t.found t.now t.event (may_give_up t.found t.event all.0))) to
 
 -- what is given up leads to a journal that is reached
-pub withdraws_reach : (w : Company) → Far w → (d daemon : Daemon) (before now : Trace) → Withdraws w d daemon before now → Reaches d daemon
-withdraws_reach w far d daemon before now s = subst (Reaches d) (sym s.given_up) (reach_tries w far d s.tries s.give_up)
+pub withdraws_reach : (w : Company) → Far w → (events : List Event) (d daemon : Daemon) (before now : Trace) → Withdraws w events d daemon before now → Reaches d daemon
+withdraws_reach w far events d daemon before now s = subst (Reaches d) (sym s.given_up) (reach_tries w far d s.tries s.give_up)
 
-reach_leaving : (abrupt : Bool) (d daemon : Daemon) (before now : Trace) → MayWithdraw at_desk abrupt d daemon before now → Reaches d daemon
-reach_leaving true d daemon before now w = withdraws_reach at_desk far_at_desk d daemon before now w
-reach_leaving false d daemon before now w = subst (Reaches d) (sym w.0) (reaches_self d)
+reach_leaving : (abrupt : Bool) (own : List Entry) (d daemon : Daemon) (before now : Trace) → MayWithdraw at_desk abrupt own d daemon before now → Reaches d daemon
+reach_leaving true own d daemon before now w = withdraws_reach at_desk far_at_desk (giving_up w.leads w.ticket) d daemon before now w.withdraws
+reach_leaving false own d daemon before now w = subst (Reaches d) (sym w.0) (reaches_self d)
 
 pub session_reaches : (seed : List ℕ) (config : Config) (d : Daemon) (before : Outside) (ending : SessionEnd) (daemon : Daemon) (now : Outside) → Session at_desk seed config d before ending daemon now → Reaches d daemon
 session_reaches seed config d before ending daemon now s =
-    reaches_through d s.between daemon (subst (Reaches d) (sym s.ran.stepped) (reach_moves seed config before.dialling.behind d s.ran.moves s.ran.may)) (reach_leaving (is_abrupt ending) s.between daemon s.trace now.trace s.withdraws)
+    reaches_through d s.between daemon (subst (Reaches d) (sym s.ran.stepped) (reach_moves seed config before.dialling.behind d s.ran.moves s.ran.may)) (reach_leaving (is_abrupt ending) (stand_after seed config d s.ran.moves).own s.between daemon s.trace now.trace s.withdraws)

@@ -1,19 +1,15 @@
 -- What a turn makes of where a session stands.
-use Rattle.std.proofs.Common.{◌≡◌, ◌∙◌, ℕ, ◌+◌, ◌≤◌, Bool, true, false, List, [], ◌∷◌, ◌++◌, length, zero, suc, Option, Some, None, refl, sym, ap, subst, append_assoc, length-append, arith}
-use Rattle.std.specs.Prelude.{IfSome}
+use Rattle.std.proofs.Common.{◌≡◌, ◌∙◌, ℕ, ◌+◌, ◌≤◌, Bool, true, false, List, [], ◌∷◌, ◌++◌, length, Option, Some, None, refl, sym, ap, subst, append_assoc, length-append, arith}
+use Rattle.std.specs.Prelude.{IfSome, ◌-◌, ◌^◌, min, nat_le}
+use Rattle.std.proofs.lemmas.Bool.Decides.{nat_tests}
 use Rattle.std.specs.Option.{option_map}
 use Rattle.std.specs.Io.KnownBytes.{Appends, Consumes}
 use Rattle.std.proofs.KnownBytes.{Appends-trans, Consumes-trans}
 use Rattle.sd_base.specs.Causes.{Rose}
-use Rattle.sd_base.specs.declared.Why.TheVariants as whys
 use Rattle.sd_rules.specs.declared.events.Event.{Event}
 use Rattle.sd_rules.specs.declared.keys.Key.{Key}
 use Rattle.sd_rules.specs.declared.replies.Entry.{Entry}
 use Rattle.sd_rules.specs.declared.replies.Given.{Given}
-use Rattle.sd_rules.specs.declared.tasks.Bound.{Bound}
-use Rattle.sd_rules.specs.declared.tasks.Bound.TheVariants as bounds
-use Rattle.sd_rules.specs.declared.tasks.Fetched.{Fetched}
-use Rattle.sd_rules.specs.declared.tasks.Fetched.TheVariants as fetches
 use Rattle.sd_rules.specs.declared.tasks.Need.TheVariants as needs
 use Rattle.sd_rules.specs.declared.tasks.Said.{Said}
 use Rattle.sd_rules.specs.Reaching.{Reaches}
@@ -25,6 +21,7 @@ use Rattle.sd_dial.specs.Operations.{Operation}
 use Rattle.sd_engine.specs.Counting.{HasNotFallen}
 use Rattle.sd_engine.specs.Lookups.{with_operations}
 use Rattle.sd_engine.specs.Received.{with_lines}
+use Rattle.sd_engine.proofs.Asking.{lookup_operations_on, bind_operations_on}
 use Rattle.sd_inbox.specs.Taking.{Unread}
 use Rattle.sd_wire.specs.declared.requests.Request.{Request}
 use Rattle.sd_wire.specs.Frames.{frame_of}
@@ -33,9 +30,11 @@ use Rattle.sd_engine.specs.Engines.{Engine, client_of, heard, awaiting, done, re
 use Rattle.sd_engine.specs.Names.{holds_order}
 use Rattle.sd_engine.specs.Leading.{about, leads_after, ticket_after}
 use Rattle.sd_engine.specs.Turns.{Dialling, HearsRequest, HearsBytes, GoesByFetch, GoesByBind, IsTold, IsUntold}
-use Rattle.sd_session.specs.Sessions.{Company, Move, Finds, Hears, Steps, Refuses, Fetches, Binds, Tells, Breaks, Finishes, Stand, AllMay, moved, stand_after, frames_of, last_stops, ReadsOn, Trace, TracesOn, CountsFalls, fetch_falls, bind_falls}
+use Rattle.sd_session.specs.Sessions.{Company, Move, Finds, Hears, Steps, Refuses, Fetches, Binds, Tells, Breaks, Finishes, Stand, AllMay, IsListening, moved, stand_after, frames_of, last_stops, ReadsOn, Trace, TracesOn, CountsFalls, count_of}
 use Rattle.sd_session.specs.Spoken.{IsSpoken}
 use Rattle.sd_session.specs.Holding.{is_told}
+use Rattle.sd_session.specs.Picking.{server_asked, asks_at, IsPicked, IsBehindPick}
+use Rattle.sd_session.proofs.PickingLaws.{asks_behind_pick, behind_nothing, behind_step}
 use Rattle.sd_session.specs.Running.{WasTold, Outside, IsInHand, IsHeardTo, IsWrittenTo, IsAskedTo, Stands}
 use Rattle.sd_session.specs.Stepping.{IsMade, IsWaited}
 use Rattle.sd_session.specs.Closing.{Accounts}
@@ -63,60 +62,34 @@ reads_more before None (Some readings) moments moment e f = absurd f
 reads_more None (Some earlier) (Some readings) moments moment e f = absurd e
 reads_more (Some first) (Some earlier) (Some readings) moments moment e f = f ∙ ap (λ (list : List ℕ). list ++ moment ∷ []) e ∙ append_assoc first moments (moment ∷ [])
 
-pub falls_more : (before falls between now one : ℕ) → CountsFalls before falls between → HasNotFallen between now → one ≤ 1 → (one ≡ 1 → Rose between now) → CountsFalls before (falls + one) now
-falls_more before falls between now one counted later small rose = by_one one refl small
+-- whether a count of faults rose
+abbrev pub has_risen : ℕ → ℕ → Bool
+has_risen before now = nat_le (min (before + 1) (2 ^ 64 - 1)) now
+
+pub risen : (before now : ℕ) → Rose before now → has_risen before now ≡ true
+risen before now rose = at_most (min (before + 1) (2 ^ 64 - 1)) now rose
   where
-    by_one : (n : ℕ) → one ≡ n → n ≤ 1 → CountsFalls before (falls + one) now
-    by_one zero e s = omega (arith, e, counted, later)
-    by_one (suc n) e s = let risen : Rose between now = rose (omega (arith, e, s)) in omega (arith, e, s, counted, risen)
+    at_most : (m n : ℕ) → m ≤ n → nat_le m n ≡ true
+    at_most m n h = grind (arith, nat_tests, h)
+
+pub rose_by : (before now : ℕ) → has_risen before now ≡ true → Rose before now
+rose_by before now h = at_most (min (before + 1) (2 ^ 64 - 1)) now h
+  where
+    at_most : (m n : ℕ) → nat_le m n ≡ true → m ≤ n
+    at_most m n h = grind (arith, nat_tests, h)
+
+pub falls_by : (before falls between now : ℕ) (fell : Bool) → CountsFalls before falls between → HasNotFallen between now → (fell ≡ true → Rose between now) → CountsFalls before (falls + count_of fell) now
+falls_by before falls between now true counted later rose = let up = rose refl in omega (arith, counted, up)
+falls_by before falls between now false counted later rose = omega (arith, counted, later)
+
+pub falls_more : (before falls between now : ℕ) → CountsFalls before falls between → HasNotFallen between now → CountsFalls before (falls + count_of (has_risen between now)) now
+falls_more before falls between now counted later = falls_by before falls between now (has_risen between now) counted later (rose_by between now)
+
+pub falls_none : (before falls now : ℕ) → CountsFalls before falls now → CountsFalls before (falls + count_of false) now
+falls_none before falls now counted = omega (arith, counted)
 
 pub fallen_later : (a b c : ℕ) → HasNotFallen a b → HasNotFallen b c → HasNotFallen a c
 fallen_later a b c e f = omega (arith, e, f)
-
-pub fetch_falls_small : (f : Fetched) → fetch_falls f ≤ 1
-fetch_falls_small (fetches.Found found) = omega arith
-fetch_falls_small fetches.Absent = omega arith
-fetch_falls_small (fetches.Refused code) = omega arith
-fetch_falls_small (fetches.Many count) = omega arith
-fetch_falls_small (fetches.Failed whys.Link) = omega arith
-fetch_falls_small (fetches.Failed (whys.Bytes at)) = omega arith
-fetch_falls_small (fetches.Failed (whys.Code code)) = omega arith
-fetch_falls_small (fetches.Failed (whys.Message tag)) = omega arith
-fetch_falls_small (fetches.Failed (whys.Flood count)) = omega arith
-fetch_falls_small fetches.Memory = omega arith
-
-none_is_one : (P : Type 0) (n : ℕ) → n ≡ zero → n ≡ suc zero → P
-none_is_one P n e h = absurd (omega (arith, e, h))
-
-fetch_fell : (f : Fetched) → fetch_falls f ≡ 1 → f ≡ fetches.Failed whys.Link
-fetch_fell (fetches.Found found) h = none_is_one _ (fetch_falls (fetches.Found found)) refl h
-fetch_fell fetches.Absent h = none_is_one _ (fetch_falls fetches.Absent) refl h
-fetch_fell (fetches.Refused code) h = none_is_one _ (fetch_falls (fetches.Refused code)) refl h
-fetch_fell (fetches.Many count) h = none_is_one _ (fetch_falls (fetches.Many count)) refl h
-fetch_fell (fetches.Failed whys.Link) h = refl
-fetch_fell (fetches.Failed (whys.Bytes at)) h = none_is_one _ (fetch_falls (fetches.Failed (whys.Bytes at))) refl h
-fetch_fell (fetches.Failed (whys.Code code)) h = none_is_one _ (fetch_falls (fetches.Failed (whys.Code code))) refl h
-fetch_fell (fetches.Failed (whys.Message tag)) h = none_is_one _ (fetch_falls (fetches.Failed (whys.Message tag))) refl h
-fetch_fell (fetches.Failed (whys.Flood count)) h = none_is_one _ (fetch_falls (fetches.Failed (whys.Flood count))) refl h
-fetch_fell fetches.Memory h = none_is_one _ (fetch_falls fetches.Memory) refl h
-
-bind_falls_small : (b : Bound) → bind_falls b ≤ 1
-bind_falls_small (bounds.Code code) = omega arith
-bind_falls_small (bounds.Failed whys.Link) = omega arith
-bind_falls_small (bounds.Failed (whys.Bytes at)) = omega arith
-bind_falls_small (bounds.Failed (whys.Code code)) = omega arith
-bind_falls_small (bounds.Failed (whys.Message tag)) = omega arith
-bind_falls_small (bounds.Failed (whys.Flood count)) = omega arith
-bind_falls_small bounds.Memory = omega arith
-
-bind_fell : (b : Bound) → bind_falls b ≡ 1 → b ≡ bounds.Failed whys.Link
-bind_fell (bounds.Code code) h = none_is_one _ (bind_falls (bounds.Code code)) refl h
-bind_fell (bounds.Failed whys.Link) h = refl
-bind_fell (bounds.Failed (whys.Bytes at)) h = none_is_one _ (bind_falls (bounds.Failed (whys.Bytes at))) refl h
-bind_fell (bounds.Failed (whys.Code code)) h = none_is_one _ (bind_falls (bounds.Failed (whys.Code code))) refl h
-bind_fell (bounds.Failed (whys.Message tag)) h = none_is_one _ (bind_falls (bounds.Failed (whys.Message tag))) refl h
-bind_fell (bounds.Failed (whys.Flood count)) h = none_is_one _ (bind_falls (bounds.Failed (whys.Flood count))) refl h
-bind_fell bounds.Memory h = none_is_one _ (bind_falls bounds.Memory) refl h
 
 -- ---- moves
 
@@ -226,6 +199,25 @@ account_by d e f client own leads ticket a =
 account_still : (d : Daemon) (e f : Engine) (own : List Entry) → f.leads ≡ e.leads → f.ticket ≡ e.ticket → f.client ≡ e.client → Accounts d e.leads e.ticket e.client own → Accounts d f.leads f.ticket f.client own
 account_still d e f own leads ticket client a = account_by d e f f.client own leads ticket (subst (λ (x : Option Client). Accounts d e.leads e.ticket x own) (sym client) a)
 
+-- with a request in hand the session may go on
+goes_with : (f : Engine) (c : Client) → f.client ≡ Some c → f.client ≡ None → f.stops ≡ false
+goes_with f c is none = let clash : ⊥ = some_none c (sym is ∙ none) in absurd clash
+  where
+    some_none : (c : Client) → Some c ≡ None → ⊥
+    some_none c e = cc
+
+-- the server that the request in hand asks was picked
+picked_at : (e : Engine) (c : Client) (own : List Entry) → e.client ≡ Some c → IsBehindPick e.client own → (server : ℕ) → server_asked (need_of c) ≡ Some server → IsPicked server own
+picked_at e c own is picked server asks = picked server (ap asks_at is ∙ asks)
+
+-- between two turns, without a request in hand, the session listens
+pub listens_by : (w : Company) (seed : List ℕ) (config : Config) (d : Daemon) (before : Outside) (e : Engine) (daemon : Daemon) (o : Outside) → (s : Stands w seed config d before e daemon o) → e.client ≡ None → IsListening (stand_after seed config d s.moves)
+listens_by w seed config d before e daemon o s none = record {
+  none = sym s.hand.client ∙ none;
+  whole = sym s.written.broken ∙ all_whole e.has_failed e.client none s.written.told;
+  going = sym s.heard.stops ∙ s.hand.going none;
+}
+
 -- ---- turns without a request in hand
 
 pub stands_hears : (w : Company) (seed : List ℕ) (config : Config) (d : Daemon) (before : Outside) (e f : Engine) (daemon : Daemon) (o p : Outside) → Stands w seed config d before e daemon o → e.client ≡ None
@@ -236,11 +228,13 @@ stands_hears w seed config d before e f daemon o p s none h reads held writes re
     let t : Stand = moved seed config s0 (Hears h.request) in
     record {
       moves = Hears h.request ∷ s.moves;
-      may = (record { none = sym s.hand.client ∙ none; whole = sym s.written.broken ∙ all_whole e.has_failed e.client none s.written.told }, s.may);
+      may = (record { listens = listens_by w seed config d before e daemon o s none; carried = h.frame.carried }, s.may);
       hand = record {
         same = s.hand.same;
         client = ap (λ (x : Engine). x.client) h.after;
         in_hand = subst (λ (x : Engine). IfSome x.client (IsInHand seed daemon)) (sym h.after) (record { salted = refl; known = begun_is_spoken daemon config.settings h.request });
+        going = goes_with f (client_of seed config.settings h.request) (ap (λ (x : Engine). x.client) h.after);
+        picked = behind_nothing f.client t.own (ap (λ (x : Engine). asks_at x.client) h.after ∙ asks_behind_pick.first seed config.settings h.request);
       };
       heard = heard_frame s0 e f seed config before o p s.heard h reads;
       written = written_on s0 t e f before o p refl refl s.written
@@ -263,6 +257,8 @@ stands_takes w seed config d before e f daemon o p s h reads held writes reading
         same = s.hand.same;
         client = ap (λ (x : Engine). x.client) h.after ∙ s.hand.client;
         in_hand = subst (λ (x : Engine). IfSome x.client (IsInHand seed daemon)) (sym h.after) s.hand.in_hand;
+        going = subst (λ (x : Engine). x.client ≡ None → x.stops ≡ false) (sym h.after) s.hand.going;
+        picked = subst (λ (x : Engine). IsBehindPick x.client s0.own) (sym h.after) s.hand.picked;
       };
       heard = heard_bytes s0 e f before o p s.heard h reads;
       written = written_on s0 s0 e f before o p refl refl s.written
@@ -297,6 +293,8 @@ stands_named w seed config d before e f daemon o p c about s is new quiet held w
         same = s.hand.same;
         client = ap (λ (x : Engine). x.client) new ∙ sym is ∙ s.hand.client;
         in_hand = subst (λ (x : Engine). IfSome x.client (IsInHand seed daemon)) (sym new) (in_hand_as seed daemon e c is s.hand.in_hand);
+        going = goes_with f c (ap (λ (x : Engine). x.client) new);
+        picked = subst (λ (x : Engine). IsBehindPick x.client s0.own) (sym new) (subst (λ (x : Option Client). IsBehindPick x s0.own) is s.hand.picked);
       };
       heard = heard_on s0 s0 e f before o p refl s.heard (same_heard e f o p (ap (λ (x : Engine). x.inbox) new) (ap (λ (x : Engine). x.stops) new) quiet);
       written = written_on s0 s0 e f before o p refl refl s.written
@@ -310,7 +308,7 @@ pub stands_fetches : (w : Company) (seed : List ℕ) (config : Config) (d : Daem
     → need_of c ≡ needs.Fetch server key → GoesByFetch config server key (done e) c f o.dialling p.dialling → Quiet o p → p.held ≡ o.held → o.writes ≤ p.writes → Stands w seed config d before f daemon p
 stands_fetches w seed config d before e f daemon o p c server key s is needed g quiet held writes =
     let s0 : Stand = stand_after seed config d s.moves in
-    let move : Move = Fetches g.fetched g.lookup.asked.operations g.lookup.asked.lines in
+    let move : Move = Fetches g.fetched g.lookup.asked.operations g.lookup.asked.lines (has_risen o.dialling.faults p.dialling.faults) in
     let t : Stand = moved seed config s0 move in
     let hand : IsInHand seed daemon c = in_hand_as seed daemon e c is s.hand.in_hand in
     record {
@@ -322,7 +320,10 @@ stands_fetches w seed config d before e f daemon o p c server key s is needed g 
           server = server;
           key = key;
           needed = needed;
-          asked = g.lookup.asked.are;
+          picked = picked_at e c s0.own is s.hand.picked server (ap server_asked needed);
+          memory = g.memory;
+          asked = lookup_operations_on config key server g.fetched _ _ g.lookup.asked.operations g.lookup.asked.lines (risen o.dialling.faults p.dialling.faults) g.lookup.asked.are;
+          fallen = λ fell. risen o.dialling.faults p.dialling.faults (g.lookup.fallen fell);
           told = λ b behind. g.lookup.told b (s.asked.behind server ∙ behind);
         },
         s.may,
@@ -331,6 +332,8 @@ stands_fetches w seed config d before e f daemon o p c server key s is needed g 
         same = s.hand.same;
         client = ap (λ (x : Engine). x.client) g.after ∙ ap (option_map (λ (x : Client). client_fetched x g.fetched)) (sym is ∙ s.hand.client);
         in_hand = subst (λ (x : Engine). IfSome x.client (IsInHand seed daemon)) (sym g.after) (record { salted = hand.salted; known = fetched_known daemon c.course g.fetched hand.known });
+        going = goes_with f (client_fetched c g.fetched) (ap (λ (x : Engine). x.client) g.after);
+        picked = behind_nothing f.client t.own (ap (λ (x : Engine). asks_at x.client) g.after ∙ asks_behind_pick.fetched c g.fetched server key needed g.memory);
       };
       heard = heard_on s0 t e f before o p refl s.heard (same_heard e f o p (ap (λ (x : Engine). x.inbox) g.after) (ap (λ (x : Engine). x.stops) g.after) quiet);
       written = written_on s0 t e f before o p refl refl s.written
@@ -340,7 +343,7 @@ stands_fetches w seed config d before e f daemon o p c server key s is needed g 
         operations = more_operations before.dialling.operations o.dialling.operations p.dialling.operations s0.operations g.lookup.asked.operations s.asked.operations g.lookup.asked.told;
         received = more_lines before.dialling.received o.dialling.received p.dialling.received s0.received g.lookup.asked.lines s.asked.received g.lookup.asked.received;
         behind = λ i. g.lookup.behind i ∙ s.asked.behind i;
-        falls = falls_more before.dialling.faults s0.falls o.dialling.faults p.dialling.faults (fetch_falls g.fetched) s.asked.falls g.lookup.later (fetch_falls_small g.fetched) (λ one. g.lookup.fallen (fetch_fell g.fetched one));
+        falls = falls_more before.dialling.faults s0.falls o.dialling.faults p.dialling.faults s.asked.falls g.lookup.later;
         later = fallen_later _ _ _ s.asked.later g.lookup.later;
       };
       account = account_by daemon e f f.client t.own (ap (λ (x : Engine). x.leads) g.after) (ap (λ (x : Engine). x.ticket) g.after)
@@ -351,7 +354,7 @@ pub stands_binds : (w : Company) (seed : List ℕ) (config : Config) (d : Daemon
     → need_of c ≡ needs.Bind server dn password → GoesByBind server dn password (done e) c f o.dialling p.dialling → Quiet o p → p.held ≡ o.held → o.writes ≤ p.writes → Stands w seed config d before f daemon p
 stands_binds w seed config d before e f daemon o p c server dn password s is needed g quiet held writes =
     let s0 : Stand = stand_after seed config d s.moves in
-    let move : Move = Binds g.bound g.bind.asked.operations g.bind.asked.lines in
+    let move : Move = Binds g.bound g.bind.asked.operations g.bind.asked.lines (has_risen o.dialling.faults p.dialling.faults) in
     let t : Stand = moved seed config s0 move in
     let hand : IsInHand seed daemon c = in_hand_as seed daemon e c is s.hand.in_hand in
     record {
@@ -364,7 +367,10 @@ stands_binds w seed config d before e f daemon o p c server dn password s is nee
           dn = dn;
           password = password;
           needed = needed;
-          asked = g.bind.asked.are;
+          picked = picked_at e c s0.own is s.hand.picked server (ap server_asked needed);
+          memory = g.memory;
+          asked = bind_operations_on dn password server g.bound _ _ g.bind.asked.operations g.bind.asked.lines (risen o.dialling.faults p.dialling.faults) g.bind.asked.are;
+          fallen = λ fell. risen o.dialling.faults p.dialling.faults (g.bind.fallen fell);
           told = λ b behind. g.bind.told b (s.asked.behind server ∙ behind);
         },
         s.may,
@@ -373,6 +379,8 @@ stands_binds w seed config d before e f daemon o p c server dn password s is nee
         same = s.hand.same;
         client = ap (λ (x : Engine). x.client) g.after ∙ ap (option_map (λ (x : Client). client_bound x g.bound)) (sym is ∙ s.hand.client);
         in_hand = subst (λ (x : Engine). IfSome x.client (IsInHand seed daemon)) (sym g.after) (record { salted = hand.salted; known = bound_known c.seed daemon c.course g.bound hand.known });
+        going = goes_with f (client_bound c g.bound) (ap (λ (x : Engine). x.client) g.after);
+        picked = behind_nothing f.client t.own (ap (λ (x : Engine). asks_at x.client) g.after ∙ asks_behind_pick.bound c g.bound server dn password needed g.memory);
       };
       heard = heard_on s0 t e f before o p refl s.heard (same_heard e f o p (ap (λ (x : Engine). x.inbox) g.after) (ap (λ (x : Engine). x.stops) g.after) quiet);
       written = written_on s0 t e f before o p refl refl s.written
@@ -382,7 +390,7 @@ stands_binds w seed config d before e f daemon o p c server dn password s is nee
         operations = more_operations before.dialling.operations o.dialling.operations p.dialling.operations s0.operations g.bind.asked.operations s.asked.operations g.bind.asked.told;
         received = more_lines before.dialling.received o.dialling.received p.dialling.received s0.received g.bind.asked.lines s.asked.received g.bind.asked.received;
         behind = λ i. g.bind.behind i ∙ s.asked.behind i;
-        falls = falls_more before.dialling.faults s0.falls o.dialling.faults p.dialling.faults (bind_falls g.bound) s.asked.falls g.bind.later (bind_falls_small g.bound) (λ one. g.bind.fallen (bind_fell g.bound one));
+        falls = falls_more before.dialling.faults s0.falls o.dialling.faults p.dialling.faults s.asked.falls g.bind.later;
         later = fallen_later _ _ _ s.asked.later g.bind.later;
       };
       account = account_by daemon e f f.client t.own (ap (λ (x : Engine). x.leads) g.after) (ap (λ (x : Engine). x.ticket) g.after)
@@ -403,6 +411,8 @@ stands_tells w seed config d before e f daemon o p c said s is needed g quiet wr
         same = s.hand.same;
         client = ap (λ (x : Engine). x.client) g.after ∙ ap (option_map client_told) (sym is ∙ s.hand.client);
         in_hand = subst (λ (x : Engine). IfSome x.client (IsInHand seed daemon)) (sym g.after) (record { salted = hand.salted; known = told_known daemon c.course hand.known });
+        going = goes_with f (client_told c) (ap (λ (x : Engine). x.client) g.after);
+        picked = behind_nothing f.client t.own (ap (λ (x : Engine). asks_at x.client) g.after ∙ asks_behind_pick.told c said needed);
       };
       heard = heard_on s0 t e f before o p refl s.heard (same_heard e f o p (ap (λ (x : Engine). x.inbox) g.after) (ap (λ (x : Engine). x.stops) g.after) quiet);
       written = record {
@@ -432,6 +442,8 @@ stands_breaks w seed config d before e f daemon o p c said s is needed g quiet w
         same = s.hand.same;
         client = ap (λ (x : Engine). x.client) g.after ∙ ap (option_map client_told) (sym is ∙ s.hand.client);
         in_hand = subst (λ (x : Engine). IfSome x.client (IsInHand seed daemon)) (sym g.after) (record { salted = hand.salted; known = told_known daemon c.course hand.known });
+        going = goes_with f (client_told c) (ap (λ (x : Engine). x.client) g.after);
+        picked = behind_nothing f.client t.own (ap (λ (x : Engine). asks_at x.client) g.after ∙ asks_behind_pick.told c said needed);
       };
       heard = heard_on s0 t e f before o p refl s.heard (same_heard e f o p (ap (λ (x : Engine). x.inbox) g.after) (ap (λ (x : Engine). x.stops) g.after) quiet);
       written = record {
@@ -448,8 +460,8 @@ stands_breaks w seed config d before e f daemon o p c said s is needed g quiet w
     }
 
 pub stands_finishes : (w : Company) (seed : List ℕ) (config : Config) (d : Daemon) (before : Outside) (e f : Engine) (daemon : Daemon) (o p : Outside) (c : Client) → Stands w seed config d before e daemon o → e.client ≡ Some c
-    → need_of c ≡ needs.End → e.has_failed ≡ false → f ≡ done e → Quiet o p → p.held ≡ o.held → o.writes ≤ p.writes → p.dialling ≡ o.dialling → Stands w seed config d before f daemon p
-stands_finishes w seed config d before e f daemon o p c s is needed fine new quiet held writes dialling =
+    → need_of c ≡ needs.End → e.stops ≡ false → e.has_failed ≡ false → f ≡ done e → Quiet o p → p.held ≡ o.held → o.writes ≤ p.writes → p.dialling ≡ o.dialling → Stands w seed config d before f daemon p
+stands_finishes w seed config d before e f daemon o p c s is needed going fine new quiet held writes dialling =
     let s0 : Stand = stand_after seed config d s.moves in
     let t : Stand = moved seed config s0 Finishes in
     record {
@@ -459,6 +471,8 @@ stands_finishes w seed config d before e f daemon o p c s is needed fine new qui
         same = s.hand.same;
         client = ap (λ (x : Engine). x.client) new;
         in_hand = subst (λ (x : Engine). IfSome x.client (IsInHand seed daemon)) (sym new) tt;
+        going = λ none. ap (λ (x : Engine). x.stops) new ∙ going;
+        picked = behind_nothing f.client t.own (ap (λ (x : Engine). asks_at x.client) new);
       };
       heard = heard_on s0 t e f before o p refl s.heard (same_heard e f o p (ap (λ (x : Engine). x.inbox) new) (ap (λ (x : Engine). x.stops) new) quiet);
       written = written_on s0 t e f before o p refl refl s.written
@@ -484,7 +498,7 @@ given_by_made d now event c gave h k is hand some =
 pub may_step_on : (w : Company) (seed : List ℕ) (config : Config) (d : Daemon) (before : Outside) (e : Engine) (daemon daemon' : Daemon) (o : Outside) (later : Trace) (c : Client) (event : Event) (gave : Given) → (s : Stands w seed config d before e daemon o) → e.client ≡ Some c
     → event_of (need_of c) ≡ Some event → (m : IsMade w daemon event gave daemon' o.trace later) → is_steppable m.found.past event ≡ true → AllMay w seed config before.dialling.behind d (Steps m.now event ∷ Finds m.found ∷ s.moves)
 may_step_on w seed config d before e daemon daemon' o later c event gave s is needed m may = (
-  record { client = c; in_hand = sym s.hand.client ∙ is; needed = needed; steppable = may; room = m.room },
+  record { client = c; in_hand = sym s.hand.client ∙ is; needed = needed; steppable = may; room = m.room; ready = m.ready },
   (subst (λ (x : Daemon). w.others x m.found) s.hand.same m.others, s.may),
 )
 
@@ -543,6 +557,8 @@ stands_steps w seed config d before e f daemon daemon' o p c event gave s is nee
         same = m.made;
         client = ap (λ (x : Engine). x.client) new ∙ given_by_made m.found m.now event c gave e.client s0.client m.gives s.hand.client is;
         in_hand = subst (λ (x : Engine). IfSome x.client (IsInHand seed daemon')) (sym new) (record { salted = hand.salted; known = known });
+        going = goes_with f (client_replied c gave) (ap (λ (x : Engine). x.client) new);
+        picked = subst (λ (x : Engine). IsBehindPick x.client t.own) (sym new) (behind_step c event gave s0.own (entry_made m.found m.now event) needed refl (ap (λ (x : Given). x.reply) (sym m.gives)));
       };
       heard = heard_on s0 t e f before o p refl s.heard (same_outside e f o p (ap (λ (x : Engine). x.inbox) new) (ap (λ (x : Engine). x.stops) new) same);
       written = written_on s0 t e f before o p refl refl s.written
@@ -566,7 +582,7 @@ stands_waits w seed config d before e daemon daemon' o p event s r to known same
     record {
       moves = Refuses r.now ∷ Finds daemon' ∷ s.moves;
       may = (tt, (subst (λ (x : Daemon). w.others x daemon') s.hand.same r.others, s.may));
-      hand = record { same = refl; client = s.hand.client; in_hand = knows_now seed daemon daemon' e.client s.hand.in_hand known };
+      hand = record { same = refl; client = s.hand.client; in_hand = knows_now seed daemon daemon' e.client s.hand.in_hand known; going = s.hand.going; picked = s.hand.picked };
       heard = heard_on s0 t e e before o p refl s.heard (same_outside e e o p refl refl same);
       written = written_on s0 t e e before o p refl refl s.written (unwritten e e o p refl s.written.told same);
       trace = (
@@ -587,7 +603,7 @@ stands_finds w seed config d before e daemon daemon' o p s others to known same 
     (record {
       moves = Finds daemon' ∷ s.moves;
       may = (subst (λ (x : Daemon). w.others x daemon') s.hand.same others, s.may);
-      hand = record { same = refl; client = s.hand.client; in_hand = knows_now seed daemon daemon' e.client s.hand.in_hand known };
+      hand = record { same = refl; client = s.hand.client; in_hand = knows_now seed daemon daemon' e.client s.hand.in_hand known; going = s.hand.going; picked = s.hand.picked };
       heard = heard_on s0 t e e before o o refl s.heard (record { inbox = refl; stops = refl; left = refl; reads = refl });
       written = written_on s0 t e e before o o refl refl s.written (record { held = refl; same = refl; told = s.written.told; writes = omega arith });
       trace = s.trace;

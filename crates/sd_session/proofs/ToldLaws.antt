@@ -28,7 +28,7 @@ use Rattle.sd_engine.specs.Courses.{Course, LookingUp, LoggingIn, Checking, Orde
 use Rattle.sd_session.specs.Holding.{lookup_is_told, closing_is_told, is_told}
 use Rattle.sd_session.proofs.HoldingLaws.{untrue}
 
-stage_says_nothing : {P : Type 0} (key : Key) (stage : LookupStage) (said : Said) → lookup_need key stage ≡ needs.Say said → P
+pub stage_says_nothing : {P : Type 0} (key : Key) (stage : LookupStage) (said : Said) → lookup_need key stage ≡ needs.Say said → P
 stage_says_nothing key stages.Ask said e = let clash : ⊥ = cc in absurd clash
 stage_says_nothing key (stages.Wait ticket) said e = let clash : ⊥ = cc in absurd clash
 stage_says_nothing key (stages.Pick r) said e = let clash : ⊥ = cc in absurd clash
@@ -38,7 +38,7 @@ stage_says_nothing key (stages.Refuse r refusal) said e = let clash : ⊥ = cc i
 stage_says_nothing key (stages.Fall r server why) said e = let clash : ⊥ = cc in absurd clash
 stage_says_nothing key (stages.Outage r) said e = let clash : ⊥ = cc in absurd clash
 
-login_says_nothing : {P : Type 0} (words : LoginWords) (dn : List ℕ) (stage : LoginStage) (said : Said) → login_need words dn stage ≡ needs.Say said → P
+pub login_says_nothing : {P : Type 0} (words : LoginWords) (dn : List ℕ) (stage : LoginStage) (said : Said) → login_need words dn stage ≡ needs.Say said → P
 login_says_nothing words dn login_stages.Open said e = let clash : ⊥ = cc in absurd clash
 login_says_nothing words dn (login_stages.Try a named right) said e = let clash : ⊥ = cc in absurd clash
 login_says_nothing words dn (login_stages.Pick a) said e = let clash : ⊥ = cc in absurd clash

@@ -1,10 +1,12 @@
 -- A turn of the engine, by what it says of itself.
-use Rattle.std.proofs.Common.{◌≡◌, ◌∙◌, ℕ, ◌≤◌, true, List, [], Option, Some, None, refl, sym, ap, subst, inl, inr, append-nil, arith}
+use Rattle.std.proofs.Common.{◌≡◌, ◌∙◌, ℕ, ◌≤◌, Bool, true, false, List, [], Option, Some, None, refl, sym, ap, subst, inl, inr, append-nil, arith}
 use Rattle.std.specs.Prelude.{IfSome, IsSome, is_some}
 use Rattle.sd_base.specs.Causes.{Rose}
 use Rattle.sd_rules.specs.declared.events.Event.{Event}
 use Rattle.sd_rules.specs.declared.events.Event.TheVariants as events
 use Rattle.sd_rules.specs.declared.keys.Key.{Key}
+use Rattle.sd_rules.specs.declared.tasks.Bound.TheVariants as bounds
+use Rattle.sd_rules.specs.declared.tasks.Fetched.TheVariants as fetches
 use Rattle.sd_rules.specs.declared.tasks.Need.{Need}
 use Rattle.sd_rules.specs.declared.tasks.Need.TheVariants as needs
 use Rattle.sd_rules.specs.Scripts.{event_of, is_need_of_kind, key_at}
@@ -15,6 +17,7 @@ use Rattle.sd_dial.specs.Operations.{Operation}
 use Rattle.sd_engine.specs.Counting.{HasNotFallen}
 use Rattle.sd_engine.specs.Lookups.{with_operations}
 use Rattle.sd_engine.specs.Received.{with_lines}
+use Rattle.sd_engine.proofs.Asking.{lookup_operations_on, bind_operations_on}
 use Rattle.sd_engine.specs.Courses.{Client, need_of, script_at}
 use Rattle.sd_session.specs.Sessions.{Company, Trace, stand_after}
 use Rattle.sd_session.specs.Spoken.{IsSpoken}
@@ -26,7 +29,10 @@ use Rattle.sd_engine.specs.Engines.{Engine, awaiting, done}
 use Rattle.sd_engine.specs.Leading.{about}
 use Rattle.sd_engine.specs.Turns.{Dialling, KeepsLeads, Hears, Serves, ServesBy, IsOfKind}
 use Rattle.sd_session.specs.Running.{AskedLast, Stands, Outside, Awaits, GoesOn, EndsIn, Turned, outside_at}
-use Rattle.sd_session.proofs.Standing.{Quiet, stands_hears, stands_takes, stands_named, stands_fetches, stands_binds, stands_tells, stands_breaks, stands_finishes}
+use Rattle.sd_session.specs.Desks.{MayCollect}
+use Rattle.sd_session.proofs.CollectLaws.{step_uncollects, may_collect}
+use Rattle.sd_session.proofs.HoldingLaws.{untrue}
+use Rattle.sd_session.proofs.Standing.{has_risen, risen, rose_by, Quiet, stands_hears, stands_takes, stands_named, stands_fetches, stands_binds, stands_tells, stands_breaks, stands_finishes}
 use Rattle.sd_session.proofs.Ending.{Leaves, same_lines, ran_hearing, ran_stopped, ran_write_fault, ran_starved}
 
 -- What a turn leaves outside: without a request in hand nothing is written or asked, with one in hand nothing is taken; the clock is not
@@ -58,7 +64,7 @@ by_need w seed config e f daemon o p c (needs.Say said) is n h quiet writes = λ
 ]
 by_need w seed config e f daemon o p c (needs.Fetch server key) is n h quiet writes = λ d before s. stands_fetches w seed config d before e f daemon o p c server key s is n h.0 quiet h.1 writes
 by_need w seed config e f daemon o p c (needs.Bind server dn password) is n h quiet writes = λ d before s. stands_binds w seed config d before e f daemon o p c server dn password s is n h.0 quiet h.1 writes
-by_need w seed config e f daemon o p c needs.End is n h quiet writes = λ d before s. stands_finishes w seed config d before e f daemon o p c s is n h.0.0.1 h.0.0.2 quiet h.1 writes h.0.1
+by_need w seed config e f daemon o p c needs.End is n h quiet writes = λ d before s. stands_finishes w seed config d before e f daemon o p c s is n h.0.0.0 h.0.0.1 h.0.0.2 quiet h.1 writes h.0.1
 by_need w seed config e f daemon o p c (needs.Step event) is n h quiet writes = absurd h.0.0
 by_need w seed config e f daemon o p c (needs.Await ticket) is n h quiet writes = absurd h.0.0
 
@@ -96,14 +102,14 @@ same_asked d e same = ap (λ (x : Dialling). x.operations) same ∙ nothing_more
 same_received : (d e : Dialling) → e ≡ d → e.received ≡ with_lines d.received []
 same_received d e same = ap (λ (x : Dialling). x.received) same ∙ same_lines d.received
 
-starved : (w : Company) (seed : List ℕ) (config : Config) (e f : Engine) (daemon : Daemon) (o p : Outside) (more : List Operation) (lines : List (List ℕ)) → ((d : Daemon) (before : Outside) (s : Stands w seed config d before e daemon o) → AskedLast config (stand_after seed config d s.moves) more lines) → KeepsLeads (done e) f → p.held ≡ o.held → Quiet o p → Outer e o p → HasNotFallen o.dialling.faults p.dialling.faults
+starved : (w : Company) (seed : List ℕ) (config : Config) (e f : Engine) (daemon : Daemon) (o p : Outside) (more : List Operation) (lines : List (List ℕ)) (fell : Bool) → ((d : Daemon) (before : Outside) (s : Stands w seed config d before e daemon o) → AskedLast config (stand_after seed config d s.moves) more lines fell) → (fell ≡ true → Rose o.dialling.faults p.dialling.faults) → KeepsLeads (done e) f → p.held ≡ o.held → Quiet o p → Outer e o p → HasNotFallen o.dialling.faults p.dialling.faults
     → p.dialling.operations ≡ with_operations o.dialling.operations more → p.dialling.received ≡ with_lines o.dialling.received lines → EndsIn w seed config ends.Memory e daemon o f daemon p
-starved w seed config e f daemon o p more lines last keeps held quiet outer later asked received = λ d before s.
-    ran_starved w seed config d before e f daemon o p more lines s (last d before s) keeps.leads keeps.ticket (leaves_by e o p held outer) quiet.left later asked received
+starved w seed config e f daemon o p more lines fell last rose keeps held quiet outer later asked received = λ d before s.
+    ran_starved w seed config d before e f daemon o p more lines fell s (last d before s) rose keeps.leads keeps.ticket (leaves_by e o p held outer) quiet.left later asked received
 
 starved_idle : (w : Company) (seed : List ℕ) (config : Config) (e f : Engine) (daemon : Daemon) (o p : Outside) → KeepsLeads (done e) f → p.held ≡ o.held → p.dialling ≡ o.dialling → Quiet o p → Outer e o p → EndsIn w seed config ends.Memory e daemon o f daemon p
 starved_idle w seed config e f daemon o p keeps held dialling quiet outer =
-    starved w seed config e f daemon o p [] [] (λ d before s. inl (refl, refl)) keeps held quiet outer (same_end o.dialling p.dialling dialling) (same_asked o.dialling p.dialling dialling) (same_received o.dialling p.dialling dialling)
+    starved w seed config e f daemon o p [] [] false (λ d before s. inl (refl, refl)) (λ fell. untrue fell) keeps held quiet outer (same_end o.dialling p.dialling dialling) (same_asked o.dialling p.dialling dialling) (same_received o.dialling p.dialling dialling)
 
 ended_by : (w : Company) (seed : List ℕ) (config : Config) (ending : SessionEnd) (e f : Engine) (daemon : Daemon) (o p : Outside) (c : Client) (need : Need) → e.client ≡ Some c → need_of c ≡ need
     → ServesBy config.pwfield config (Ended ending) need (done e) c f o.held p.held (Rose o.writes p.writes) o.dialling p.dialling → Quiet o p → Outer e o p → EndsIn w seed config ending e daemon o f daemon p
@@ -111,15 +117,16 @@ ended_by w seed config ends.Memory e f daemon o p c (needs.Say said) is n h quie
 ended_by w seed config ends.Memory e f daemon o p c (needs.Step event) is n h quiet outer = starved_idle w seed config e f daemon o p h.0.0 h.1 h.0.1 quiet outer
 ended_by w seed config ends.Memory e f daemon o p c (needs.Await ticket) is n h quiet outer = starved_idle w seed config e f daemon o p h.0.0 h.1 h.0.1 quiet outer
 ended_by w seed config ends.Memory e f daemon o p c (needs.Fetch server key) is n h quiet outer =
-    starved w seed config e f daemon o p h.0.1.asked.operations h.0.1.asked.lines
-    (λ d before s. inr (inl (record { client = c; in_hand = sym s.hand.client ∙ is; server = server; key = key; needed = n; asked = h.0.1.asked.are }))) h.0.0 h.1 quiet outer h.0.1.later h.0.1.asked.told h.0.1.asked.received
+    starved w seed config e f daemon o p h.0.1.asked.operations h.0.1.asked.lines (has_risen o.dialling.faults p.dialling.faults)
+    (λ d before s. inr (inl (record { client = c; in_hand = sym s.hand.client ∙ is; server = server; key = key; needed = n; asked = lookup_operations_on config key server fetches.Memory _ _ h.0.1.asked.operations h.0.1.asked.lines (risen o.dialling.faults p.dialling.faults) h.0.1.asked.are })))
+    (rose_by o.dialling.faults p.dialling.faults) h.0.0 h.1 quiet outer h.0.1.later h.0.1.asked.told h.0.1.asked.received
 ended_by w seed config ends.Memory e f daemon o p c (needs.Bind server dn password) is n h quiet outer =
-    starved w seed config e f daemon o p h.0.1.asked.operations h.0.1.asked.lines
-    (λ d before s. inr (inr (record { client = c; in_hand = sym s.hand.client ∙ is; server = server; dn = dn; password = password; needed = n; asked = h.0.1.asked.are }))) h.0.0 h.1 quiet outer h.0.1.later h.0.1.asked.told h.0.1.asked.received
+    starved w seed config e f daemon o p h.0.1.asked.operations h.0.1.asked.lines (has_risen o.dialling.faults p.dialling.faults)
+    (λ d before s. inr (inr (record { client = c; in_hand = sym s.hand.client ∙ is; server = server; dn = dn; password = password; needed = n; asked = bind_operations_on dn password server bounds.Memory _ _ h.0.1.asked.operations h.0.1.asked.lines (risen o.dialling.faults p.dialling.faults) h.0.1.asked.are })))
+    (rose_by o.dialling.faults p.dialling.faults) h.0.0 h.1 quiet outer h.0.1.later h.0.1.asked.told h.0.1.asked.received
 ended_by w seed config ends.Memory e f daemon o p c needs.End is n h quiet outer = absurd h.0.0
 ended_by w seed config ends.Stopped e f daemon o p c needs.End is n h quiet outer = λ d before s.
-    let t = stands_finishes w seed config d before e f daemon o p c s is n h.0.0.1 h.0.0.2 quiet h.1 outer.writes h.0.1 in
-    ran_stopped w seed config d before f daemon p t (ap (λ (x : Engine). x.client) h.0.0.2) (ap (λ (x : Engine). x.stops) h.0.0.2 ∙ h.0.0.0)
+    ran_stopped w seed config d before e f daemon o p c s is n h.0.0.0 h.0.0.1 h.0.0.2 (leaves_by e o p h.1 outer) quiet.left h.0.1
 ended_by w seed config ends.WriteFault e f daemon o p c needs.End is n h quiet outer = λ d before s.
     ran_write_fault w seed config d before e f daemon o p c s is n h.0.0.0 h.0.0.1 (leaves_by e o p h.1 outer) quiet.left h.0.1
 ended_by w seed config ends.Stopped e f daemon o p c (needs.Say said) is n h quiet outer = absurd h.0
@@ -290,6 +297,27 @@ turn_step w seed config event e f daemon o p known t =
     (λ none h. absurd (t.hears none))
     (λ c is h. elim h [
       | inl served ↦ step_by w seed config e f daemon o p c event (need_of c) is refl served (kind_at e (Step event) c is t.kind) (known c is) t.outer
+      | inr idle ↦ absurd (not_idle_step event idle.ended)
+    ])
+
+-- an event that a script steps itself is no Collect
+collects_by : (config : Config) (e f : Engine) (daemon : Daemon) (o p : Outside) (c : Client) (event : Event) (need : Need) → need_of c ≡ need
+    → ServesBy config.pwfield config (Step event) need (done e) c f o.held p.held (Rose o.writes p.writes) o.dialling p.dialling → IsSpoken daemon c.course → MayCollect daemon event
+collects_by config e f daemon o p c event (needs.Step other) n h known =
+    let same : event ≡ other = same_event event other h.0.0.0 in
+    may_collect daemon event (step_uncollects c.seed daemon c.course event (n ∙ ap needs.Step (sym same)) known)
+collects_by config e f daemon o p c event (needs.Await ticket) n h known = absurd (no_step event ticket h.0.0.0)
+collects_by config e f daemon o p c event (needs.Fetch server key) n h known = absurd h.0
+collects_by config e f daemon o p c event (needs.Bind server dn password) n h known = absurd h.0
+collects_by config e f daemon o p c event (needs.Say said) n h known = absurd h.0
+collects_by config e f daemon o p c event needs.End n h known = absurd h.0.0
+
+pub step_collects : (seed : List ℕ) (config : Config) (event : Event) (e f : Engine) (daemon : Daemon) (o p : Outside) → ((c : Client) → e.client ≡ Some c → IsSpoken daemon c.course) → Told seed config (Step event) e f o p → MayCollect daemon event
+step_collects seed config event e f daemon o p known t =
+    by_client e (λ x. IfSome x (λ c. Serves config (Step event) (done e) c f o.held p.held (Rose o.writes p.writes) o.dialling p.dialling)) (MayCollect daemon event) t.serves
+    (λ none h. absurd (t.hears none))
+    (λ c is h. elim h [
+      | inl served ↦ collects_by config e f daemon o p c event (need_of c) refl served (known c is)
       | inr idle ↦ absurd (not_idle_step event idle.ended)
     ])
 

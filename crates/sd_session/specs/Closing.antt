@@ -1,5 +1,5 @@
 -- What of a session's own is open in a journal: the requests and attempts that its entries opened, the tickets that they gave.
-use Rattle.std.specs.Prelude.{◌≡◌, ℕ, ◌<◌, ◌⊎◌, true, false, List, [], ◌∷◌, Option, Some, None}
+use Rattle.std.specs.Prelude.{◌≡◌, ℕ, ◌<◌, ◌⊎◌, ◌||◌, ◌==◌, Bool, true, false, List, [], ◌∷◌, Option, Some, None}
 use Rattle.sd_rules.specs.declared.events.Event.{Event}
 use Rattle.sd_rules.specs.declared.events.Event.TheVariants.{Abandon, Leave}
 use Rattle.sd_rules.specs.declared.replies.Entry.{Entry}
@@ -67,11 +67,28 @@ abbrev pub AreHeld : Daemon → Option Client → List Entry → Type 0
 AreHeld d client [] = Unit {0}
 AreHeld d client (e ∷ entries) = IsHeld d client e.number × AreHeld d client entries
 
--- What own entries opened is led and gone on with, where it is open.
+-- one of these entries has the number
+abbrev pub has_number : List Entry → ℕ → Bool
+has_number [] n = false
+has_number (e ∷ own) n = (e.number == n) || has_number own n
+
+-- no number is listed twice
+abbrev pub AreApart : List ℕ → Type 0
+AreApart [] = Unit {0}
+AreApart (n ∷ ns) = (lists ns n ≡ false) × AreApart ns
+
+-- What is led are numbers of own entries, each once, and the ticket is the number of one.
+pub record AreOwn (leads : List ℕ) (ticket : Option ℕ) (own : List Entry) : Type 0 where
+  pub leads_own : (n : ℕ) → lists leads n ≡ true → has_number own n ≡ true
+  pub once : AreApart leads
+  pub ticket_own : (n : ℕ) → ticket ≡ Some n → has_number own n ≡ true
+
+-- What own entries opened is led and gone on with, where it is open. Nothing else is led.
 pub record Accounts (d : Daemon) (leads : List ℕ) (ticket : Option ℕ) (client : Option Client) (own : List Entry) : Type 0 where
   pub led : AreLed d leads ticket own
   pub held : AreHeld d client own
   pub sorted : IsSorted d client
+  pub are_own : AreOwn leads ticket own
 
 -- From one journal to a later one these requests, attempts and this ticket are given up.
 pub record GivesUp (d f : Daemon) (leads : List ℕ) (ticket : Option ℕ) : Type 0 where

@@ -1,9 +1,11 @@
 pub mod Spoken
 pub mod Holding
 pub mod Closing
+pub mod Picking
 pub mod Sessions
 pub mod Stepping
 pub mod Running
 pub mod Withdrawing
+pub mod Headline
 pub mod Desks
 pub mod Solo

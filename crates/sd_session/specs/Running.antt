@@ -1,5 +1,5 @@
 -- Where a session stands between its turns, and how it ends.
-use Rattle.std.specs.Prelude.{◌≡◌, ◌≢◌, ◌⊎◌, ℕ, ◌≤◌, Bool, true, false, List, [], ◌++◌, length, Option, Some, None, IfSome}
+use Rattle.std.specs.Prelude.{◌≡◌, ◌≢◌, ◌⊎◌, ℕ, ◌+◌, ◌≤◌, Bool, true, false, List, [], ◌++◌, length, Option, Some, None, IfSome}
 use Rattle.std.specs.Io.KnownBytes.{Appends, Consumes, IsAtEnd}
 use Rattle.sd_base.specs.Causes.{Rose}
 use Rattle.sd_base.specs.declared.io.Sink as sinks
@@ -29,8 +29,9 @@ use Rattle.sd_engine.specs.Engines.{Engine, replied}
 use Rattle.sd_engine.specs.Leading.{about, leads_after, ticket_after}
 use Rattle.sd_engine.specs.Turns.{Dialling, dialling_of}
 use Rattle.sd_session.specs.Holding.{is_told}
-use Rattle.sd_session.specs.Closing.{Accounts, AreLed, NoneReserved}
-use Rattle.sd_session.specs.Sessions.{Company, Move, Stand, Trace, AllMay, TracesOn, stand_after, frames_of, last_stops, CountsFalls}
+use Rattle.sd_session.specs.Picking.{AsksBehindPick, IsBehindPick}
+use Rattle.sd_session.specs.Closing.{Accounts, AreLed, AreOwn, NoneReserved}
+use Rattle.sd_session.specs.Sessions.{Company, Move, Stand, Trace, AllMay, IsListening, TracesOn, stand_after, frames_of, last_stops, CountsFalls, count_of}
 
 -- What is told of the outside at a moment: the bytes left, the bytes held, the session's own steps, the counts of faults of source and
 -- sink, and what the dialer tells.
@@ -76,11 +77,13 @@ pub record IsAskedTo (s : Stand) (before now : Dialling) : Type 0 where
   pub falls : CountsFalls before.faults s.falls now.faults
   pub later : HasNotFallen before.faults now.faults
 
--- the request in hand
+-- the request in hand; without one the session was not told to stop; a server that it asks was picked
 pub record HasInHand (seed : List ℕ) (s : Stand) (engine : Engine) (daemon : Daemon) : Type 0 where
   pub same : daemon ≡ s.daemon
   pub client : engine.client ≡ s.client
   pub in_hand : IfSome engine.client (IsInHand seed daemon)
+  pub going : engine.client ≡ None → engine.stops ≡ false
+  pub picked : IsBehindPick engine.client s.own
 
 -- Between two turns: the moves so far, each of which the session might make, led from the daemon d to this one and to the request in
 -- hand; and what the outside tells is by these moves.
@@ -148,45 +151,47 @@ pub record IsFullFor (w : Company) (count : ℕ) (s : Stand) : Type 0 where
   pub forgot : w.full s event count
 
 -- Why a session ended where it stood. But for a fault of the sink, a full journal and want of memory, each request that was heard is
--- carried out, and its answer was written whole.
+-- carried out, and its answer was written whole. Behind the answer to a stop the session ends as stopped.
 abbrev pub EndsAs : Company → SessionEnd → Stand → Outside → Outside → Type 0
-EndsAs w ends.Closed s before now = (s.client ≡ None) × (s.broken ≡ false) × Took s [] before now × IsAtEnd now.left
+EndsAs w ends.Closed s before now = IsListening s × Took s [] before now × IsAtEnd now.left
 EndsAs w ends.Stopped s before now = (s.client ≡ None) × (s.broken ≡ false) × (last_stops s.requests ≡ true) × TookMore s before now
-EndsAs w ends.ReadFault s before now = (s.client ≡ None) × (s.broken ≡ false) × IsUnread s before now
+EndsAs w ends.ReadFault s before now = IsListening s × IsUnread s before now
 EndsAs w ends.WriteFault s before now = (s.client ≡ None) × (s.broken ≡ true) × TookMore s before now
-EndsAs w (ends.BadFrame at) s before now = (s.client ≡ None) × (s.broken ≡ false) × IsBadAt at s before now
-EndsAs w ends.Cut s before now = (s.client ≡ None) × (s.broken ≡ false) × IsCutOff s before now
-EndsAs w (ends.Long count) s before now = (s.client ≡ None) × (s.broken ≡ false) × IsTooLong count s before now
+EndsAs w (ends.BadFrame at) s before now = IsListening s × IsBadAt at s before now
+EndsAs w ends.Cut s before now = IsListening s × IsCutOff s before now
+EndsAs w (ends.Long count) s before now = IsListening s × IsTooLong count s before now
 EndsAs w (ends.JournalFull count) s before now = IsFullFor w count s × TookMore s before now
 EndsAs w ends.Memory s before now = TookMore s before now
 
 -- the operations, and the bytes received, of the lookup that the request in hand needed, for which memory was wanting
-pub record LookedLast (config : Config) (s : Stand) (more : List Operation) (lines : List (List ℕ)) : Type 0 where
+pub record LookedLast (config : Config) (s : Stand) (more : List Operation) (lines : List (List ℕ)) (fell : Bool) : Type 0 where
   pub client : Client
   pub in_hand : s.client ≡ Some client
   pub server : ℕ
   pub key : Key
   pub needed : need_of client ≡ needs.Fetch server key
-  pub asked : LookupOperations config key server fetches.Memory more lines
+  pub asked : LookupOperations config key server fetches.Memory (fell ≡ true) more lines
 
 -- the same of a bind
-pub record BoundLast (s : Stand) (more : List Operation) (lines : List (List ℕ)) : Type 0 where
+pub record BoundLast (s : Stand) (more : List Operation) (lines : List (List ℕ)) (fell : Bool) : Type 0 where
   pub client : Client
   pub in_hand : s.client ≡ Some client
   pub server : ℕ
   pub dn : List ℕ
   pub password : List ℕ
   pub needed : need_of client ≡ needs.Bind server dn password
-  pub asked : BindOperations dn password server bounds.Memory more lines
+  pub asked : BindOperations dn password server bounds.Memory (fell ≡ true) more lines
 
-abbrev pub AskedLast : Config → Stand → List Operation → List (List ℕ) → Type 0
-AskedLast config s more lines = ((more ≡ []) × (lines ≡ [])) ⊎ (LookedLast config s more lines ⊎ BoundLast s more lines)
+abbrev pub AskedLast : Config → Stand → List Operation → List (List ℕ) → Bool → Type 0
+AskedLast config s more lines fell = ((more ≡ []) × (lines ≡ [])) ⊎ (LookedLast config s more lines fell ⊎ BoundLast s more lines fell)
 
--- what a lookup or a bind asked for which memory was then wanting
+-- what a lookup or a bind asked for which memory was then wanting, and whether it counted a fall of its link
 pub record AskedMore (config : Config) (s : Stand) (before now : Outside) : Type 0 where
   pub more : List Operation
   pub lines : List (List ℕ)
-  pub last : AskedLast config s more lines
+  pub fell : Bool
+  pub last : AskedLast config s more lines fell
+  pub falls : CountsFalls before.dialling.faults (s.falls + count_of fell) now.dialling.faults
   pub told : now.dialling.operations ≡ with_operations before.dialling.operations (s.operations ++ more)
   pub received : now.dialling.received ≡ with_lines before.dialling.received (s.received ++ lines)
 
@@ -200,7 +205,8 @@ abbrev pub Asked : Config → SessionEnd → Stand → Outside → Outside → T
 Asked config ends.Memory s before now = AskedMore config s before now
 Asked config _ s before now = AskedAll s before.dialling now.dialling
 
--- a session from the daemon d on: its moves, and why it ended there
+-- A session from the daemon d on: its moves, and why it ended there. By the scripts a server is asked only behind a Pick, and nothing is
+-- asked for a fresh hit or a Join.
 pub record Ran (w : Company) (seed : List ℕ) (config : Config) (d : Daemon) (before : Outside) (ending : SessionEnd) (daemon : Daemon) (now : Outside) : Type 0 where
   pub moves : List Move
   pub may : AllMay w seed config before.dialling.behind d moves
@@ -210,14 +216,20 @@ pub record Ran (w : Company) (seed : List ℕ) (config : Config) (d : Daemon) (b
   pub operations : Asked config ending (stand_after seed config d moves) before now
   pub falls : CountsFalls before.dialling.faults (stand_after seed config d moves).falls now.dialling.faults
   pub why : EndsAs w ending (stand_after seed config d moves) before now
+  pub asks : AsksBehindPick
   pub failed : (stand_after seed config d moves).broken ≡ true → Rose before.writes now.writes
   pub reads : before.reads ≤ now.reads
   pub writes : before.writes ≤ now.writes
 
+-- all that own entries opened is led, where it is open, and nothing else is led
+pub record IsLeft (d : Daemon) (engine : Engine) (own : List Entry) : Type 0 where
+  pub led : AreLed d engine.leads engine.ticket own
+  pub are_own : AreOwn engine.leads engine.ticket own
+
 -- What is open of what own entries opened: only a full journal and want of memory leave something, which the session leads.
 abbrev pub Unfinished : SessionEnd → Daemon → Engine → List Entry → Type 0
-Unfinished (ends.JournalFull count) d engine own = AreLed d engine.leads engine.ticket own
-Unfinished ends.Memory d engine own = AreLed d engine.leads engine.ticket own
+Unfinished (ends.JournalFull count) d engine own = IsLeft d engine own
+Unfinished ends.Memory d engine own = IsLeft d engine own
 Unfinished _ d engine own = NoneReserved d own
 
 -- a session that ran to its end, and what its engine then leads

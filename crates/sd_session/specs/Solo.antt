@@ -2,6 +2,7 @@
 use Rattle.std.specs.Prelude.{ℕ, List, Option}
 use Rattle.sd_base.specs.declared.io.Sink as sinks
 use Rattle.sd_base.specs.declared.io.Source as sources
+use Rattle.sd_rules.specs.declared.events.Event.{Event}
 use Rattle.sd_rules.specs.Steps.{Daemon}
 use Rattle.sd_conf.specs.declared.config.Config.{Config}
 use Rattle.sd_clock.specs.declared.clock.Clock as clocks
@@ -19,10 +20,10 @@ module _ {C : Type 0} (k : clocks.Ghosts C) where
   abbrev pub StepsOn : Option SessionEnd → Engine → Daemon → C → Engine → Daemon → C → Type 0
   StepsOn ending e core clock f core' clock' = running.TurnedBySteps alone ending e core (trace_of (k.readings clock) core) f core' (trace_of (k.readings clock') core')
 
-  -- at an end that leaves something, it is given up
-  abbrev pub MayWithdraw : SessionEnd → Daemon → C → Daemon → C → Type 0
-  MayWithdraw ending core clock core' clock' =
-      withdrawing.MayWithdraw alone (withdrawing.is_abrupt ending) core core' (trace_of (k.readings clock) core) (trace_of (k.readings clock') core')
+  -- at an end that leaves something, these are given up
+  abbrev pub MayTry : SessionEnd → List Event → Daemon → C → Daemon → C → Type 0
+  MayTry ending events core clock core' clock' =
+      withdrawing.MayTry alone (withdrawing.is_abrupt ending) events core core' (trace_of (k.readings clock) core) (trace_of (k.readings clock') core')
 
 -- ---- sessions over a source, a sink, a dialer and a clock, which tell r, w, t and k
 

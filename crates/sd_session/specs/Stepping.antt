@@ -23,6 +23,7 @@ pub record IsMade (w : Company) (old : Daemon) (event : Event) (gave : Given) (n
   pub fits : found_fits found.past event gave.found ≡ true
   pub kept : IsKept found
   pub room : is_full found event ≡ false
+  pub ready : w.ready found event
   pub entries : later.entries ≡ before.entries ++ entry_made found now event ∷ []
 
 -- the end of a session whose step was refused

@@ -1,5 +1,5 @@
 //! What a session at a desk gives up at its end.
-ghost use Rattle.std.specs.Prelude.{◌≡◌, ℕ, true, Some};
+ghost use Rattle.std.specs.Prelude.{◌≡◌, ℕ, true, [], ◌∷◌, Some};
 ghost use Rattle.sd_rules.specs.Reaching.{Reaches};
 ghost use Rattle.sd_desk.specs.Desks.{front, IsOwn, HoldsNoTurn, IsSameSeat};
 ghost use Rattle.sd_desk.specs.Steps.{MayStep};
@@ -29,7 +29,7 @@ fn try_step<R: Wait, C: Clock>(
     ensures own { IsOwn desk.now seat.new }
     ensures free { HoldsNoTurn seat.new }
     ensures same { IsSameSeat seat.old seat.new }
-    ensures withdraws { withdrawing.Withdraws desks.at_desk (front desk.now seat.old) (front desk.now seat.new) (desks.trace_at (C.readings clock.old) seat.old) (desks.trace_at (C.readings clock.new) seat.new) }
+    ensures withdraws { withdrawing.Withdraws desks.at_desk (event ∷ []) (front desk.now seat.old) (front desk.now seat.new) (desks.trace_at (C.readings clock.old) seat.old) (desks.trace_at (C.readings clock.new) seat.new) }
     ensures reaches { Reaches (front desk.now seat.old) (front desk.now seat.new) }
     ensures over { IsOver (front desk.now seat.old) (front desk.now seat.new) event }
 {
@@ -49,7 +49,7 @@ fn abandon_all<R: Wait, C: Clock>(
     ensures own { IsOwn desk.now seat.new }
     ensures free { HoldsNoTurn seat.new }
     ensures same { IsSameSeat seat.old seat.new }
-    ensures withdraws { withdrawing.Withdraws desks.at_desk (front desk.now seat.old) (front desk.now seat.new) (desks.trace_at (C.readings clock.old) seat.old) (desks.trace_at (C.readings clock.new) seat.new) }
+    ensures withdraws { withdrawing.Withdraws desks.at_desk (withdrawing.abandoning numbers.now) (front desk.now seat.old) (front desk.now seat.new) (desks.trace_at (C.readings clock.old) seat.old) (desks.trace_at (C.readings clock.new) seat.new) }
     ensures reaches { Reaches (front desk.now seat.old) (front desk.now seat.new) }
     ensures abandoned { (n : ℕ) → lists numbers.now n ≡ true → WasGiven n (front desk.now seat.old) → IsShut n (front desk.now seat.new) }
 {
@@ -71,7 +71,7 @@ fn leave<R: Wait, C: Clock>(
     ensures own { IsOwn desk.now seat.new }
     ensures free { HoldsNoTurn seat.new }
     ensures same { IsSameSeat seat.old seat.new }
-    ensures withdraws { withdrawing.Withdraws desks.at_desk (front desk.now seat.old) (front desk.now seat.new) (desks.trace_at (C.readings clock.old) seat.old) (desks.trace_at (C.readings clock.new) seat.new) }
+    ensures withdraws { withdrawing.Withdraws desks.at_desk (withdrawing.leaving ticket) (front desk.now seat.old) (front desk.now seat.new) (desks.trace_at (C.readings clock.old) seat.old) (desks.trace_at (C.readings clock.new) seat.new) }
     ensures reaches { Reaches (front desk.now seat.old) (front desk.now seat.new) }
     ensures left { (n : ℕ) → ticket ≡ Some n → WasGiven n (front desk.now seat.old) → HasLeft n (front desk.now seat.new) }
 {
@@ -94,7 +94,7 @@ pub fn leave_desk<R: Wait, C: Clock>(
     ensures own { IsOwn desk.now seat.new }
     ensures free { HoldsNoTurn seat.new }
     ensures same { IsSameSeat seat.old seat.new }
-    ensures withdraws { withdrawing.Withdraws desks.at_desk (front desk.now seat.old) (front desk.now seat.new) (desks.trace_at (C.readings clock.old) seat.old) (desks.trace_at (C.readings clock.new) seat.new) }
+    ensures withdraws { withdrawing.Withdraws desks.at_desk (withdrawing.giving_up leads.now ticket) (front desk.now seat.old) (front desk.now seat.new) (desks.trace_at (C.readings clock.old) seat.old) (desks.trace_at (C.readings clock.new) seat.new) }
     ensures gives_up { GivesUp (front desk.now seat.old) (front desk.now seat.new) leads.now ticket }
 {
     abandon_all(rt, desk, seat, clock, leads);

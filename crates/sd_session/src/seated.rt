@@ -1,5 +1,7 @@
 //! The steps of a session at a desk.
-ghost use Rattle.std.specs.Prelude.{◌≡◌, ℕ, false, IfOk, IfErr, OnErr};
+ghost use Rattle.std.specs.Prelude.{◌≡◌, ℕ, false, None, IfOk, IfErr, OnErr};
+ghost use Rattle.sd_rules.specs.Requests.{waits_for};
+ghost use Rattle.sd_core.specs.Laws.{IsKept};
 ghost use Rattle.sd_rules.specs.Reaching.{Reaches};
 ghost use Rattle.sd_desk.specs.Desks.{front, mine, IsOwn, HoldsNoTurn, IsSameSeat};
 ghost use Rattle.sd_desk.specs.Steps.{MayStep, MadeEntry, FullAfterForget};
@@ -110,6 +112,7 @@ pub fn step<R: Wait, C: Clock>(
     requires own { IsOwn desk.now seat.old }
     requires free { HoldsNoTurn seat.old }
     requires may { MayStep (front desk.now seat.old) event }
+    requires collects { desks.MayCollect (front desk.now seat.old) event }
     ensures own { IsOwn desk.now seat.new }
     ensures free { HoldsNoTurn seat.new }
     ensures same { IsSameSeat seat.old seat.new }
@@ -150,6 +153,8 @@ pub fn try_collect<R: Wait, C: Clock>(
     ensures same { IsSameSeat seat.old seat.new }
     ensures made { IfOk result (λ given. desks.MakesStep C.Clock desk.now (Event.Collect ticket) given seat.old clock.old seat.new clock.new) }
     ensures waited { OnErr result (desks.MakesNoStep C.Clock desk.now seat.old clock.old seat.new clock.new) }
+    // Where the journal has no room the ticket waits for nothing.
+    ensures full { IfErr result (λ why. why ≡ Uncollected.Full → IsKept (front desk.now seat.new) × (waits_for (front desk.now seat.new).past ticket ≡ None)) }
 {
     let now = clock.now();
     match desk.collect(seat, now, ticket) {

@@ -38,6 +38,7 @@ fn carry_out<R: Wait, C: Clock>(
     requires own { IsOwn desk.now seat.old }
     requires free { HoldsNoTurn seat.old }
     requires awaits { running.Awaits (front desk.now seat.old) engine.old event }
+    requires collects { desks.MayCollect (front desk.now seat.old) event }
     ensures own { IsOwn desk.now seat.new }
     ensures free { HoldsNoTurn seat.new }
     ensures same { IsSameSeat seat.old seat.new }
@@ -149,7 +150,7 @@ fn run<R: Wait, S: Source, W: Sink, D: Dialer, C: Clock, G: Gate>(
 }
 
 /// Gives up what a session leads and waits with, where its end leaves something.
-#[tactic(auto, using(crate::proofs::GivingUp::may_withdraw, crate::proofs::GivingUp::keeps_all))]
+#[tactic(auto, using(crate::proofs::GivingUp::may_try, crate::proofs::GivingUp::keeps_all))]
 fn give_up<R: Wait, C: Clock>(
     rt: &R,
     desk: &Desk,
@@ -163,7 +164,7 @@ fn give_up<R: Wait, C: Clock>(
     ensures own { IsOwn desk.now seat.new }
     ensures free { HoldsNoTurn seat.new }
     ensures same { IsSameSeat seat.old seat.new }
-    ensures withdraws { desks.MayWithdraw C.Clock desk.now end seat.old clock.old seat.new clock.new }
+    ensures withdraws { desks.MayTry C.Clock desk.now end (withdrawing.giving_up engine.now.leads engine.now.ticket) seat.old clock.old seat.new clock.new }
     ensures gives_up { withdrawing.is_abrupt end ≡ true → GivesUp (front desk.now seat.old) (front desk.now seat.new) engine.now.leads engine.now.ticket }
 {
     if !is_abrupt(end) {
@@ -192,6 +193,10 @@ pub fn session<R: Wait, S: Source, W: Sink, D: Dialer, C: Clock, G: Gate>(
     ensures free { HoldsNoTurn result.0 }
     ensures same { IsSameSeat seat result.0 }
     ensures session { desks.Session S.Source W.Sink D.Dialer C.Clock desk.now result.1
+        seat source.old sink.old dialer.old clock.old
+        result.0 source.new sink.new dialer.new clock.new }
+    // Every reply that is written is the abstract daemon's reply at an own entry in the one journal, after all that was seen.
+    ensures headline { desks.Headline S.Source W.Sink D.Dialer C.Clock desk.now
         seat source.old sink.old dialer.old clock.old
         result.0 source.new sink.new dialer.new clock.new }
     // The journal handed back is one that the journal handed in became.

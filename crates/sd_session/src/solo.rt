@@ -106,10 +106,10 @@ fn run<S: Source, W: Sink, D: Dialer, C: Clock>(
     SessionEnd::Memory
 }
 
-#[tactic(auto, using(crate::proofs::GivingUp::may_withdraw, crate::proofs::GivingUp::keeps_all))]
+#[tactic(auto, using(crate::proofs::GivingUp::may_try, crate::proofs::GivingUp::keeps_all))]
 /// Gives up what a session leads and waits with, where its end leaves something.
 fn give_up<C: Clock>(core: &mut Core, engine: &Engine, clock: &mut C, end: SessionEnd)
-    ensures withdraws { solo.MayWithdraw C.Clock end core.old clock.old core.new clock.new }
+    ensures withdraws { solo.MayTry C.Clock end (withdrawing.giving_up engine.now.leads engine.now.ticket) core.old clock.old core.new clock.new }
     ensures gives_up { withdrawing.is_abrupt end ≡ true → GivesUp core.old core.new engine.now.leads engine.now.ticket }
     ensures grown { growth.KeepsGrown core.old core.new }
 {

@@ -1,5 +1,5 @@
 //! What a session gives up at its end.
-ghost use Rattle.std.specs.Prelude.{◌≡◌, ℕ, true, Some};
+ghost use Rattle.std.specs.Prelude.{◌≡◌, ℕ, true, [], ◌∷◌, Some};
 ghost use Rattle.sd_rules.specs.Reaching.{Reaches};
 ghost use Rattle.sd_rules.specs.Steps as steps;
 ghost use Rattle.sd_core.specs.Growth as growth;
@@ -25,7 +25,7 @@ pub fn is_abrupt(end: SessionEnd) -> bool
 fn try_step<C: Clock>(core: &mut Core, clock: &mut C, event: Event)
     requires steppable { steps.is_steppable core.old.past event ≡ true }
     requires gives_up { withdrawing.gives_up event ≡ true }
-    ensures withdraws { withdrawing.Withdraws sessions.alone core.old core.new (sessions.trace_of (C.readings clock.old) core.old) (sessions.trace_of (C.readings clock.new) core.new) }
+    ensures withdraws { withdrawing.Withdraws sessions.alone (event ∷ []) core.old core.new (sessions.trace_of (C.readings clock.old) core.old) (sessions.trace_of (C.readings clock.new) core.new) }
     ensures grown { growth.KeepsGrown core.old core.new }
     ensures reaches { Reaches core.old core.new }
     ensures over { IsOver core.old core.new event }
@@ -35,7 +35,7 @@ fn try_step<C: Clock>(core: &mut Core, clock: &mut C, event: Event)
 
 /// Abandons requests and attempts, in order.
 fn abandon_all<C: Clock>(core: &mut Core, clock: &mut C, numbers: &[u64])
-    ensures withdraws { withdrawing.Withdraws sessions.alone core.old core.new (sessions.trace_of (C.readings clock.old) core.old) (sessions.trace_of (C.readings clock.new) core.new) }
+    ensures withdraws { withdrawing.Withdraws sessions.alone (withdrawing.abandoning numbers.now) core.old core.new (sessions.trace_of (C.readings clock.old) core.old) (sessions.trace_of (C.readings clock.new) core.new) }
     ensures grown { growth.KeepsGrown core.old core.new }
     ensures reaches { Reaches core.old core.new }
     ensures abandoned { (n : ℕ) → lists numbers.now n ≡ true → WasGiven n core.old → IsShut n core.new }
@@ -47,7 +47,7 @@ fn abandon_all<C: Clock>(core: &mut Core, clock: &mut C, numbers: &[u64])
 
 /// Lets a ticket leave.
 fn leave<C: Clock>(core: &mut Core, clock: &mut C, ticket: Option<u64>)
-    ensures withdraws { withdrawing.Withdraws sessions.alone core.old core.new (sessions.trace_of (C.readings clock.old) core.old) (sessions.trace_of (C.readings clock.new) core.new) }
+    ensures withdraws { withdrawing.Withdraws sessions.alone (withdrawing.leaving ticket) core.old core.new (sessions.trace_of (C.readings clock.old) core.old) (sessions.trace_of (C.readings clock.new) core.new) }
     ensures grown { growth.KeepsGrown core.old core.new }
     ensures reaches { Reaches core.old core.new }
     ensures left { (n : ℕ) → ticket ≡ Some n → WasGiven n core.old → HasLeft n core.new }
@@ -59,7 +59,7 @@ fn leave<C: Clock>(core: &mut Core, clock: &mut C, ticket: Option<u64>)
 
 /// Abandons what a session leads, and lets the ticket leave that it waits with.
 pub fn withdraw<C: Clock>(core: &mut Core, clock: &mut C, leads: &[u64], ticket: Option<u64>)
-    ensures withdraws { withdrawing.Withdraws sessions.alone core.old core.new (sessions.trace_of (C.readings clock.old) core.old) (sessions.trace_of (C.readings clock.new) core.new) }
+    ensures withdraws { withdrawing.Withdraws sessions.alone (withdrawing.giving_up leads.now ticket) core.old core.new (sessions.trace_of (C.readings clock.old) core.old) (sessions.trace_of (C.readings clock.new) core.new) }
     ensures grown { growth.KeepsGrown core.old core.new }
     ensures gives_up { GivesUp core.old core.new leads.now ticket }
 {

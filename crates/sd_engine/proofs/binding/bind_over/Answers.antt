@@ -1,16 +1,18 @@
 use Rattle.sd_engine.proofs.Receiving.{grew_nothing}
-use Rattle.sd_engine.proofs.Asking.{bind_asks, bind_grew, unbinds_by, bind_fallen, bind_later, fresh_settled, told_bound}
+use Rattle.sd_engine.proofs.Asking.{bind_asks, bind_rose, bind_grew, unbinds_by, bind_fallen, bind_later, fresh_settled, told_bound}
 use Rattle.sd_engine.proofs.binding.bind_over.Goals as goal
 
 pub returns-clause-asks : goal.returns-clause-asks
 returns-clause-asks g c =
-    bind_asks g.L.DirectoryLink.asked g.L.Link.received c.args.dn.now c.args.password.now c.bind-bound.result _ _ c.new-client.result c.bind-bound.new.client c.args.line c.end.result c.new-client.ensures
+    bind_asks g.L.DirectoryLink.asked g.L.Link.received c.args.dn.now c.args.password.now c.bind-bound.result _ _ _ _ c.new-client.result c.bind-bound.new.client c.args.line c.end.result c.new-client.ensures
+    (bind_rose g.L.Link.faults c.new-client.result c.args.line _ _ c.new-client.ensures c.bind-bound.ensures.later)
     (record {
       used = c.bind-bound.ensures.used;
       unsent = λ same. (c.bind-bound.ensures.unsent same).asked;
       no_reply = c.bind-bound.ensures.no_reply;
       sent = λ more. (c.bind-bound.ensures.sent more).asked;
       reply = c.bind-bound.ensures.reply;
+      fails = c.bind-bound.ensures.fails;
       grew =
           bind_grew _ _ _ _ _ _ c.bind-bound.ensures.used
           (λ same. let u = c.bind-bound.ensures.unsent same in grew_nothing _ _ _ _ u.held u.received)

@@ -4,7 +4,7 @@ use Rattle.sd_session.proofs.OverLaws.{gives_up_all}
 use Rattle.sd_session.proofs.leaving.leave_desk.Goals as goal
 
 pub returns-clause-withdraws : goal.returns-clause-withdraws
-returns-clause-withdraws g c = withdraws_both _ _ _ _ _ _ _ c.abandon_all.ensures.withdraws c.leave.ensures.withdraws
+returns-clause-withdraws g c = withdraws_both _ _ _ _ _ _ _ _ _ c.abandon_all.ensures.withdraws c.leave.ensures.withdraws
 
 pub returns-clause-gives_up : goal.returns-clause-gives_up
 returns-clause-gives_up g c =

@@ -4,11 +4,13 @@ use Rattle.sd_desk.specs.Steps.{FullAfterForget}
 use Rattle.sd_engine.specs.declared.ending.SessionEnd.{SessionEnd}
 use Rattle.sd_engine.specs.declared.ending.SessionEnd.TheVariants as ends
 use Rattle.sd_session.specs.Stepping.{RefusedAs}
-use Rattle.sd_session.proofs.Sharing.{made_at_desk, refused_by, full_by}
+use Rattle.sd_session.proofs.Sharing.{ready_on, made_at_desk, refused_by, full_by}
 use Rattle.sd_session.proofs.seated.step.Goals as goal
 
 pub returns-in-Ok-clause-made : goal.returns-in-Ok-clause-made
-returns-in-Ok-clause-made g c = made_at_desk _ _ _ _ c.now-now.result c.args.event _ _ _ c.in-Ok.ensures.made c.now-now.ensures
+returns-in-Ok-clause-made g c =
+    made_at_desk _ _ _ _ c.now-now.result c.args.event _ _ _ c.in-Ok.ensures.made c.now-now.ensures
+    (ready_on (front c.args.desk.now c.args.seat.now) c.in-Ok.ensures.made.before c.args.event c.in-Ok.ensures.made.reached c.requires.collects)
 
 pub returns-in-Err-clause-refused : goal.returns-in-Err-clause-refused
 returns-in-Err-clause-refused g c = record {

@@ -1,7 +1,9 @@
+use Rattle.std.proofs.Common.{refl}
 use Rattle.sd_rules.specs.declared.events.Event.TheVariants as events
 use Rattle.sd_desk.specs.Desks.{front}
 use Rattle.sd_session.specs.Desks.{at_desk, trace_at}
 use Rattle.sd_session.proofs.Carrying.{fits, told_turned, awaits_on, carries_waiting}
+use Rattle.sd_session.proofs.CollectLaws.{ticket_below}
 use Rattle.sd_session.proofs.Ending.{ran_idle}
 use Rattle.sd_session.proofs.Sharing.{far_at_desk, same_through}
 use Rattle.sd_session.proofs.Turning.{turned_on}
@@ -31,6 +33,12 @@ loop-preserved g c = record {
 
 pub carry_out-requires-clause-awaits : goal.carry_out-requires-clause-awaits
 carry_out-requires-clause-awaits g c = awaits_on _ _ _ _ c.in-Err-Full.ensures.waited.others c.loop.invariant.awaits
+
+pub carry_out-requires-clause-collects : goal.carry_out-requires-clause-collects
+carry_out-requires-clause-collects g c =
+    let a = awaits_on _ _ _ _ c.in-Err-Full.ensures.waited.others c.loop.invariant.awaits in
+    let full = c.in-Err-Full.ensures.full c.in-Err-Full.field-0-is in
+    record { given = record { orderly = full.0.orderly; below = ticket_below a.client.seed (front c.args.desk.now c.try_collect.new.seat) a.client.course c.args.ticket a.needed a.known }; left = full.1 }
 
 pub returns-in-Err-Full-clause-turned : goal.returns-in-Err-Full-clause-turned
 returns-in-Err-Full-clause-turned g c = λ seed config o.

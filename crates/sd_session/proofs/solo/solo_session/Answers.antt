@@ -1,4 +1,5 @@
 use Rattle.sd_session.specs.Sessions.{alone, trace_of}
+use Rattle.sd_session.proofs.GivingUp.{gives_up_own}
 use Rattle.sd_session.proofs.OverLaws.{closed_at_end}
 use Rattle.sd_session.proofs.Opening.{grown_itself}
 use Rattle.sd_session.proofs.solo.solo_session.Goals as goal
@@ -8,7 +9,7 @@ returns-clause-session g c = record {
   between = c.run-end.new.core;
   trace = trace_of (g.C.Clock.readings c.run-end.new.clock) c.run-end.new.core;
   ran = c.run-end.ensures.ran.ran;
-  withdraws = c.give_up.ensures.withdraws;
+  withdraws = gives_up_own alone c.run-end.result _ _ c.run-end.new.engine _ _ _ c.run-end.ensures.ran.unfinished c.give_up.ensures.withdraws;
   closed = closed_at_end alone c.run-end.result _ _ c.run-end.new.engine _ _ _ c.run-end.ensures.ran.unfinished c.give_up.ensures.gives_up c.give_up.ensures.withdraws;
 }
 

@@ -19,6 +19,7 @@ returns-in-Ok-clause-made g c = record {
   fits = c.in-Ok.ensures.laws.of_kind;
   kept = c.next_number.ensures.kept;
   room = c.in-Ok.ensures.room;
+  ready = tt;
   entries = journal_more c.args.core.now _ c.now-now.result c.args.event c.in-Ok.ensures.made;
 }
 

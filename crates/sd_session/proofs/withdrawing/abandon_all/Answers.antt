@@ -1,15 +1,19 @@
-use Rattle.sd_session.proofs.GivingUp.{withdraws_nothing, withdraws_both}
+use Rattle.std.proofs.Common.{arith}
+use Rattle.sd_session.proofs.GivingUp.{abandons_none, abandons_at, abandons_end}
 use Rattle.sd_rules.proofs.ReachingLaws.{reaches_self, reaches_through}
 use Rattle.sd_session.proofs.OverLaws.{abandoned_none, abandoned_at}
 use Rattle.sd_session.proofs.withdrawing.abandon_all.Goals as goal
 
 pub loop-number-init : goal.loop-number-init
-loop-number-init g c = record { withdraws = withdraws_nothing _ _ _; grown = λ opened h. h; reaches = reaches_self _; abandoned = abandoned_none _ _ }
+loop-number-init g c = record { withdraws = abandons_none _ _ _ _; grown = λ opened h. h; reaches = reaches_self _; abandoned = abandoned_none _ _ }
 
 pub loop-number-preserved : goal.loop-number-preserved
 loop-number-preserved g c = record {
-  withdraws = withdraws_both _ _ _ _ _ _ _ c.loop-number.invariant.withdraws c.try_step.ensures.withdraws;
+  withdraws = abandons_at _ c.args.numbers.now c.loop-number.number-index _ _ _ _ _ _ c.loop-number-test.true c.loop-number.invariant.withdraws c.try_step.ensures.withdraws;
   grown = λ opened h. c.try_step.ensures.grown opened (c.loop-number.invariant.grown opened h);
   reaches = reaches_through _ _ _ c.loop-number.invariant.reaches c.try_step.ensures.reaches;
   abandoned = abandoned_at _ _ _ c.args.numbers.now c.loop-number.number-index c.loop-number-test.true c.loop-number.invariant.reaches c.try_step.ensures.reaches c.try_step.ensures.over c.loop-number.invariant.abandoned;
 }
+
+pub returns-clause-withdraws : goal.returns-clause-withdraws
+returns-clause-withdraws g c = abandons_end _ c.args.numbers.now c.loop-number.number-index _ _ _ _ (omega (arith, c.loop-number-test.false)) c.loop-number.invariant.withdraws
