@@ -304,8 +304,8 @@ from_led false ms who more n h = from_with ms more n h
 
 -- no number is listed twice after a reply
 is_false : (b : Bool) → (b ≡ true → ⊥) → b ≡ false
-is_false true no = absurd (no refl)
-is_false false no = refl
+is_false true never = absurd (never refl)
+is_false false never = refl
 
 not_listed : (x y : List ℕ) (n : ℕ) → (lists x n ≡ true → lists y n ≡ true) → lists y n ≡ false → lists x n ≡ false
 not_listed x y n to none = is_false (lists x n) (λ l. untrue (sym none ∙ to l))

@@ -1,5 +1,6 @@
 -- Tries of giving up, one after the other.
-use Rattle.std.proofs.Common.{◌≡◌, ◌∙◌, ℕ, Bool, true, false, cond, List, [], ◌∷◌, ◌++◌, Option, Some, None, Result, Ok, Err, refl, sym, ap, subst, append_assoc, append-nil, ◌+◌, ◌<◌, suc, length, get_or, drop, drop-cons, add-one}
+use Rattle.std.proofs.Common.{◌≡◌, ◌∙◌, ℕ, Bool, true, false, cond, List, [], ◌∷◌, ◌++◌, Option, Some, None, Result, Ok, Err, refl, sym, ap, subst, append_assoc, append-nil, ◌+◌, ◌<◌, suc, length, get_or, drop, drop-cons, add-one, ◌≤◌}
+use Rattle.std.proofs.lemmas.List.{drop_all}
 use Rattle.std.specs.Prelude.{IfOk, IfErr}
 use Rattle.sd_rules.specs.declared.events.Event.{Event}
 use Rattle.sd_rules.specs.declared.events.Event.TheVariants.{Abandon}
@@ -119,8 +120,12 @@ abandons_at w numbers i d f g before mid now lt a one =
     subst (λ (k : ℕ). Abandons w numbers (drop k numbers) d g before now) (sym (add-one i))
     (abandons_one w numbers (get_or numbers i 0) (drop (suc i) numbers) d f g before mid now (subst (λ (list : List ℕ). Abandons w numbers list d f before mid) (drop-cons numbers i 0 lt) a) one)
 
-pub abandons_all : (w : Company) (numbers : List ℕ) (d f : Daemon) (before now : Trace) → Abandons w numbers [] d f before now → Withdraws w (abandoning numbers) d f before now
+abandons_all : (w : Company) (numbers : List ℕ) (d f : Daemon) (before now : Trace) → Abandons w numbers [] d f before now → Withdraws w (abandoning numbers) d f before now
 abandons_all w numbers d f before now a = subst (λ (events : List Event). Withdraws w events d f before now) (sym (append-nil a.events) ∙ a.left) a.withdraws
+
+-- the whole list, at its end
+pub abandons_end : (w : Company) (numbers : List ℕ) (i : ℕ) (d f : Daemon) (before now : Trace) → length numbers ≤ i → Abandons w numbers (drop i numbers) d f before now → Withdraws w (abandoning numbers) d f before now
+abandons_end w numbers i d f before now past a = abandons_all w numbers d f before now (subst (λ (list : List ℕ). Abandons w numbers list d f before now) (drop_all i numbers past) a)
 
 -- ---- at an end
 

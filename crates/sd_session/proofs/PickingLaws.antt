@@ -56,10 +56,6 @@ none_is e = let clash : ⊥ = cc in absurd clash
 no_event : {P : Type 0} {e : Event} → None ≡ Some e → P
 no_event h = let clash : ⊥ = cc in absurd clash
 
--- nothing is asked, so no server is
-unasked : {P : Type 0} {n : Need} {server : ℕ} → server_asked n ≡ None → server_asked n ≡ Some server → P
-unasked none some = none_is (sym none ∙ some)
-
 -- ---- a lookup
 
 -- the need that a step of a lookup leads to

@@ -37,7 +37,7 @@ carry_out-requires-clause-awaits g c = awaits_on _ _ _ _ c.in-Err-Full.ensures.w
 pub carry_out-requires-clause-collects : goal.carry_out-requires-clause-collects
 carry_out-requires-clause-collects g c =
     let a = awaits_on _ _ _ _ c.in-Err-Full.ensures.waited.others c.loop.invariant.awaits in
-    let full = c.in-Err-Full.ensures.full refl in
+    let full = c.in-Err-Full.ensures.full c.in-Err-Full.field-0-is in
     record { given = record { orderly = full.0.orderly; below = ticket_below a.client.seed (front c.args.desk.now c.try_collect.new.seat) a.client.course c.args.ticket a.needed a.known }; left = full.1 }
 
 pub returns-in-Err-Full-clause-turned : goal.returns-in-Err-Full-clause-turned

@@ -1,4 +1,5 @@
-use Rattle.sd_session.proofs.GivingUp.{abandons_none, abandons_at, abandons_all}
+use Rattle.std.proofs.Common.{arith}
+use Rattle.sd_session.proofs.GivingUp.{abandons_none, abandons_at, abandons_end}
 use Rattle.sd_rules.proofs.ReachingLaws.{reaches_self, reaches_through}
 use Rattle.sd_session.proofs.OverLaws.{abandoned_none, abandoned_at}
 use Rattle.sd_session.proofs.withdrawing.abandon_all.Goals as goal
@@ -15,4 +16,4 @@ loop-number-preserved g c = record {
 }
 
 pub returns-clause-withdraws : goal.returns-clause-withdraws
-returns-clause-withdraws g c = abandons_all _ _ _ _ _ _ c.loop-number.invariant.withdraws
+returns-clause-withdraws g c = abandons_end _ c.args.numbers.now c.loop-number.number-index _ _ _ _ (omega (arith, c.loop-number-test.false)) c.loop-number.invariant.withdraws
