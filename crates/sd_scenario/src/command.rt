@@ -4,7 +4,6 @@ ghost use Rattle.std.specs.Io.KnownBytes.{Appends};
 ghost use Rattle.sd_base.specs.Causes.{Rose};
 ghost use Rattle.sd_base.specs.Written.{AppendsFront};
 ghost use Rattle.sd_scenario.specs.Endings as endings;
-ghost use Rattle.sd_scenario.specs.Headline.{Headline};
 ghost use Rattle.sd_tools.specs.Endings as tools;
 ghost use Rattle.sd_layout.specs.Faults as lines;
 ghost use Rattle.sd_world.specs.Endings as played;
@@ -38,7 +37,12 @@ pub fn scenario<S: Source, W: Sink>(
     ensures status { endings.IsStatus result }
 
     // The whole input was taken, it is at most 16 MiB, each line has a form, and the whole transcript was written.
-    ensures done { result ≡ DONE → IfSome (S.left source.old) (λ text. Headline text (S.left source.new) (W.held sink.old) (W.held sink.new)) }
+    ensures done { result ≡ DONE → IfSome (S.left source.old) (λ text.
+        (S.left source.new ≡ Some [])
+        × (length text ≤ LIMIT)
+        × (lines.first_bad text ≡ None)
+        × ((script.transcript text).is_full ≡ false)
+        × Appends (W.held sink.old) (W.held sink.new) (script.transcript text).text) }
 
     // The words are not the one word `scenario`: nothing is read, and `usage` is written, where the sink takes it.
     ensures usage { result ≡ USAGE → (endings.is_scenario (map string_bytes words.now) ≡ false)
