@@ -7,9 +7,8 @@ use outside::SystemOutside;
 use sd_base::{Memory, ReaderSource, WriterSink};
 use sd_clock::OpenGate;
 use sd_ldap_server::TcpNetwork;
-use sd_log::{Level, level_named};
 use sd_serve::{NO_MEMORY, program};
-use sd_system::{Board, SystemHost};
+use sd_system::{Health, SystemHost};
 use std::process::ExitCode;
 use std::{env, io};
 
@@ -29,14 +28,6 @@ fn words_or_none(rt: &HostRuntime) -> Result<Vec<String>, Memory> {
     }
 }
 
-/// How much the daemon logs, by the environment.
-fn log_level(rt: &HostRuntime) -> Level {
-    match env::var(rt, "BIXETHOMI_LOG") {
-        Ok(word) => level_named(word.as_bytes()),
-        Err(_) => Level::Logins,
-    }
-}
-
 fn main(rt: HostRuntime) -> ExitCode {
     let Ok(words) = words_or_none(&rt) else {
         return ExitCode::from(NO_MEMORY);
@@ -44,8 +35,8 @@ fn main(rt: HostRuntime) -> ExitCode {
     let mut source = ReaderSource::new(rt.stdin());
     let mut sink = WriterSink::new(rt.stdout());
     let mut outside = SystemOutside::new(&rt);
-    let board = Board::new(log_level(&rt));
-    let mut host = SystemHost::new(&rt, &rt, &board);
+    let health = Health::new();
+    let mut host = SystemHost::new(&rt, &rt, &health);
     let mut network = TcpNetwork::new(&rt);
     ExitCode::from(program(
         &rt,

@@ -1,12 +1,9 @@
 // The host that the daemon serves.
 ghost use Rattle.std.specs.Prelude.{◌≡◌, false, None};
 
-use crate::board::Board;
-use crate::equipment::SystemTools;
+use crate::equipment::{Health, SystemTools};
 use crate::keeper::WatchedKeeper;
 use crate::links::links_beside;
-use crate::notes::{log_configuration, log_notice};
-use crate::talk::WatchedDoors;
 use sd_base::{Source, SourceFailed};
 use sd_doors::{DoorFailed, Doors};
 use sd_keeper::KeeperFault;
@@ -21,29 +18,11 @@ use std::random::RandomSource;
 use std::sync::Wait;
 use std::time::Clock;
 
-/// The most bytes of a file that are kept: those of a configuration.
-const MOST_KEPT: usize = 1_048_576;
-
 /// A file that is read from its beginning. It tells no content.
 #[derive(Drop)]
 pub struct FileSource<F: Read + Drop> {
     file: F,
     faults: u64,
-    /// What was read, where it is kept and no larger than a configuration.
-    kept: Option<Vec<u8>>,
-}
-
-impl<F: Read + Drop> FileSource<F> {
-    /// Keeps what was read, as long as a configuration may be that long.
-    fn keep(&mut self, bytes: &[u8])
-        ensures { self.new.faults ≡ self.old.faults }
-    {
-        if let Some(kept) = &mut self.kept {
-            if kept.len() <= MOST_KEPT {
-                let _ = kept.extend_from_slice(bytes);
-            }
-        }
-    }
 }
 
 impl<F: Read + Drop> Source for FileSource<F> {
@@ -53,10 +32,7 @@ impl<F: Read + Drop> Source for FileSource<F> {
 
     fn take(&mut self, buf: &mut [u8]) -> Result<usize, SourceFailed> {
         match self.file.read(buf) {
-            Ok(count) => {
-                self.keep(&buf[..count]);
-                Ok(count)
-            }
+            Ok(count) => Ok(count),
             Err(_) => {
                 self.faults = self.faults.saturating_add(1);
                 Err(SourceFailed)
@@ -71,9 +47,7 @@ pub struct SystemHost<'r, R> {
     rt: &'r R,
     /// What the store's keeper is made with.
     system: &'r HostRuntime,
-    board: &'r Board,
-    /// The bytes of the first file that was read: the configuration.
-    conf: Option<Vec<u8>>,
+    health: &'r Health,
     /// Where servers are reached through sockets, once the doors are open.
     links: Option<Links>,
     source_faults: u64,
@@ -84,12 +58,11 @@ pub struct SystemHost<'r, R> {
 }
 
 impl<'r, R> SystemHost<'r, R> {
-    pub fn new(rt: &'r R, system: &'r HostRuntime, board: &'r Board) -> SystemHost<'r, R> {
+    pub fn new(rt: &'r R, system: &'r HostRuntime, health: &'r Health) -> SystemHost<'r, R> {
         SystemHost {
             rt,
             system,
-            board,
-            conf: None,
+            health,
             links: None,
             source_faults: 0,
             door_faults: 0,
@@ -107,7 +80,7 @@ where
 {
     type File = FileSource<R::File>;
 
-    type Door = WatchedDoors<'r, R, UnixDoors<'r, R>>;
+    type Door = UnixDoors<'r, R>;
 
     type Tools = SystemTools<'r, R>;
 
@@ -127,15 +100,7 @@ where
 
     fn file(&mut self, path: &str) -> Result<FileSource<R::File>, SourceFailed> {
         match File::open(self.rt, path) {
-            Ok(file) => Ok(FileSource {
-                file,
-                faults: 0,
-                kept: if self.conf.is_none() {
-                    Some(Vec::new(self.rt.alloc()))
-                } else {
-                    None
-                },
-            }),
+            Ok(file) => Ok(FileSource { file, faults: 0 }),
             Err(_) => {
                 self.source_faults = self.source_faults.saturating_add(1);
                 Err(SourceFailed)
@@ -144,16 +109,8 @@ where
     }
 
     fn done_file(&mut self, file: FileSource<R::File>) {
-        let FileSource {
-            file: _,
-            faults,
-            kept,
-        } = file;
-        if faults > 0 {
+        if file.faults > 0 {
             self.source_faults = self.source_faults.saturating_add(1);
-        }
-        if kept.is_some() {
-            self.conf = kept;
         }
     }
 
@@ -169,7 +126,7 @@ where
     }
 
     fn keeper(&mut self, path: &str) -> Result<WatchedKeeper<'r>, KeeperFault> {
-        let made = WatchedKeeper::open(self.system, self.board, path);
+        let made = WatchedKeeper::open(self.system, path);
         self.store_failed = matches!(made, Err(KeeperFault::Failed));
         if self.store_failed {
             self.store_faults = self.store_faults.saturating_add(1);
@@ -184,17 +141,14 @@ where
         self.store_failed = keeper.has_failed();
     }
 
-    fn listen(&mut self, path: &str) -> Result<WatchedDoors<'r, R, UnixDoors<'r, R>>, DoorFailed> {
+    fn listen(&mut self, path: &str) -> Result<UnixDoors<'r, R>, DoorFailed> {
         let Ok(links) = links_beside(self.rt, path) else {
             self.door_faults = self.door_faults.saturating_add(1);
             return Err(DoorFailed);
         };
         self.links = links;
         match UnixDoors::open(self.rt, path) {
-            Ok(doors) => {
-                self.board.begin(self.rt, path);
-                Ok(WatchedDoors::new(self.rt, self.board, doors))
-            }
+            Ok(doors) => Ok(doors),
             Err(_) => {
                 self.door_faults = self.door_faults.saturating_add(1);
                 Err(DoorFailed)
@@ -203,12 +157,10 @@ where
     }
 
     fn equipment(&mut self) -> SystemTools<'r, R> {
-        SystemTools::new(self.rt, self.board, self.links.take())
+        SystemTools::new(self.rt, self.health, self.links.take())
     }
 
-    fn done_doors(&mut self, doors: WatchedDoors<'r, R, UnixDoors<'r, R>>) {
-        let doors = doors.into_doors();
-        self.board.end(self.rt);
+    fn done_doors(&mut self, doors: UnixDoors<'r, R>) {
         if doors.faults() > 0 {
             self.door_faults = self.door_faults.saturating_add(1);
         }
@@ -217,10 +169,6 @@ where
     }
 
     fn log(&mut self, notice: Notice) {
-        log_notice(self.rt, self.board, notice);
-        if let Notice::Serving(_) = notice {
-            let conf = self.conf.take();
-            log_configuration(self.rt, self.board, conf, self.links.is_some());
-        }
+        let _ = eprintln!(self.rt; "bixethomi: {notice}");
     }
 }

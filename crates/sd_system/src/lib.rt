@@ -2,18 +2,11 @@
 //! error.
 #![tactic(auto)]
 
-mod board;
 mod equipment;
 mod host;
 mod keeper;
-mod line;
 mod links;
-mod notes;
-mod talk;
 
-pub use board::Board;
-pub use equipment::{SystemClock, SystemTools, WatchedDialer};
+pub use equipment::{Health, SystemClock, SystemTools, WatchedDialer};
 pub use host::{FileSource, SystemHost};
 pub use keeper::WatchedKeeper;
-pub use line::WatchedLine;
-pub use talk::{WatchedDoors, WatchedSink, WatchedSource};

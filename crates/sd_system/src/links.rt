@@ -16,7 +16,7 @@ where
         Err(error) if error.kind() == ErrorKind::NotFound => Ok(None),
         _ => {
             let _ = eprintln!(rt;
-                "<5>bixethomi: servers are reached through the sockets in {folder} alone"
+                "bixethomi: servers are reached through the sockets in {folder} alone"
             );
             Ok(Some(Links::new(rt.alloc(), folder)))
         }
