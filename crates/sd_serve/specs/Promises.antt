@@ -15,7 +15,6 @@ use Rattle.sd_ldif.specs.declared.LdifFault.{LdifFault}
 use Rattle.sd_netgroup.specs.Endings as nets
 use Rattle.sd_netgroup.specs.Words.{question_of}
 use Rattle.sd_scenario.specs.Endings as ends
-use Rattle.sd_scenario.specs.Headline.{Headline}
 use Rattle.sd_server.specs.HostStores as stores
 use Rattle.sd_server.specs.Refusals as refusals
 use Rattle.sd_server.specs.declared.beginning.TheConstants.{BAD_STORE, DOOR_FAULT, REFUSED, STORE_FAULT}
@@ -46,7 +45,8 @@ pub record Plays {S W : Type 0} (left : S → Option (List ℕ)) (read_faults : 
     (source source' : S) (sink sink' : W) (status : ℕ) : Type 0 where
   pub status_is : ends.IsStatus status
   -- the whole input was taken, it is at most 16 MiB, each line has a form, and the whole transcript was written
-  pub done : status ≡ DONE → IfSome (left source) (λ text. Headline text (left source') (held sink) (held sink'))
+  pub done : status ≡ DONE → IfSome (left source) (λ text. (left source' ≡ Some []) × (length text ≤ LIMIT) × (lines.first_bad text ≡ None)
+      × ((script.transcript text).is_full ≡ false) × Appends (held sink) (held sink') (script.transcript text).text)
   -- line n is the first without a form, and `bad line n` alone was written
   pub bad_line : status ≡ BAD_LINE → IfSome (left source) (λ text. (length text ≤ LIMIT)
       × ((n : ℕ) × (lines.first_bad text ≡ Some n) × Appends (held sink) (held sink') (endings.bad_line n)))
